@@ -1,0 +1,9 @@
+pub mod Table
+pub mod Utf8Laws
+pub mod TopicLaws
+pub mod CompareLaws
+pub mod LinesLaws
+pub mod DecimalLaws
+pub mod SpanLaws
+pub mod SizeLaws
+pub mod FlagLaws

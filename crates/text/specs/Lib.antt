@@ -1,0 +1,9 @@
+pub mod Utf8
+pub mod Topic
+pub mod Compare
+pub mod Words
+pub mod Lines
+pub mod Decimal
+pub mod Span
+pub mod Sizes
+pub mod Flags

@@ -1,0 +1,15 @@
+// The flags of a write.
+ghost use mathlib.Core.Path.{_≡_};
+ghost use Rattle.text.specs.Flags.{goodFlags};
+
+// Of the bits 0 (raw) and 1 (value) just one is set; bit 3 may be; no other is.
+pub fn good_flags(f: u32) -> bool
+    ensures { λ r. ⌜ r ≡ goodFlags f ⌝ }
+{
+    let other = f & 0xFFFF_FFF4;
+    if other != 0 {
+        return false;
+    }
+    let kind = f & 3;
+    u32::count_ones(kind) == 1
+}
