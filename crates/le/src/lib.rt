@@ -102,10 +102,10 @@ pub fn copy_at(src: &[u8], dst: &mut [u8], at: usize)
     requires { ⌜ at + length (now src) ≤ length (now dst) ⌝ }
     ensures { λ _. ⌜ now (dst .exit) ≡ splice (now (dst .entry)) at (now (src .entry)) ⌝ }
 {
-    let mut i = 0;
-    while i < src.len() {
-        dst[at + i] = src[i];
-        i += 1;
+    let mut done = 0;
+    while done < src.len() {
+        dst[at + done] = src[done];
+        done += 1;
     }
 }
 

@@ -4,6 +4,7 @@ pub mod TopicLaws
 pub mod CompareLaws
 pub mod LinesLaws
 pub mod DecimalLaws
+pub mod DigitLaws
 pub mod SpanLaws
 pub mod SizeLaws
 pub mod FlagLaws
