@@ -29,8 +29,10 @@ shared-slice-read-if2-2 c = omega arith
 
 returns-2 : tie.Need-returns-2 Inv-loop μ-loop
 returns-2 c =
-    let a = c .before .before .before .before .before .before .args in
-    let l = c .before .before .before .before .loop in
+    let c₁ = c .before .before .before .before in
+    let c₂ = c₁ .before .before in
+    let a = c₂ .args in
+    let l = c₁ .loop in
     prefix-bad (now (a .filter)) (now (a .topic)) (l .i) _ (omega arith) (omega arith) (c .if2 .taken) (l .inv .1)
 
 add-i : tie.Need-add-i Inv-loop μ-loop
@@ -41,8 +43,10 @@ loop-less c = omega arith
 
 loop-again : tie.Need-loop-again Inv-loop μ-loop
 loop-again c =
-    let a = c .before .before .before .before .before .before .args in
-    let l = c .before .before .before .before .loop in
+    let c₁ = c .before .before .before .before in
+    let c₂ = c₁ .before .before in
+    let a = c₂ .args in
+    let l = c₁ .loop in
     (omega arith, prefix-turn (now (a .filter)) (now (a .topic)) (l .i) _ (omega arith) (omega arith) (c .if2 .left) (l .inv .1))
 
 returns-3 : tie.Need-returns-3 Inv-loop μ-loop

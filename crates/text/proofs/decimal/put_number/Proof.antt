@@ -12,7 +12,12 @@ returns-2 : tie.Need-returns-2
 returns-2 c = no-room _ _ _ _ (c .before .before .digit-count .ensures) (omega arith)
 
 returns-3 : tie.Need-returns-3
-returns-3 c = all-put _ _ _ _ (c .before .before .before .before .before .before .digit-count .ensures) _ (c .before .before .before .before .before .if1 .left) (c .before .before .before .before .if2 .left) (c .before .before .put-digits .ensures)
+returns-3 c =
+    let c₁ = c .before .before in
+    let c₂ = c₁ .before .before in
+    let c₃ = c₂ .before in
+    let c₄ = c₃ .before in
+    all-put _ _ _ _ (c₄ .digit-count .ensures) _ (c₃ .if1 .left) (c₂ .if2 .left) (c₁ .put-digits .ensures)
 
 pub put-number-spec : {M : Type 1} → statement M
 put-number-spec =

@@ -23,8 +23,10 @@ shared-slice-read-if1 c = omega arith
 
 returns : tie.Need-returns Inv-loop μ-loop
 returns c =
-    let l = c .before .before .before .loop in
-    control-bad (now (c .before .before .before .before .args .s)) (l .i) _ (omega arith) (c .if1 .taken) (l .inv .1)
+    let c₁ = c .before .before .before in
+    let c₂ = c₁ .before in
+    let l = c₁ .loop in
+    control-bad (now (c₂ .args .s)) (l .i) _ (omega arith) (c .if1 .taken) (l .inv .1)
 
 add-i : tie.Need-add-i Inv-loop μ-loop
 add-i c = omega arith
@@ -34,8 +36,10 @@ loop-less c = omega arith
 
 loop-again : tie.Need-loop-again Inv-loop μ-loop
 loop-again c =
-    let l = c .before .before .before .loop in
-    (omega arith, control-turn (now (c .before .before .before .before .args .s)) (l .i) _ (omega arith) (c .if1 .left) (l .inv .1))
+    let c₁ = c .before .before .before in
+    let c₂ = c₁ .before in
+    let l = c₁ .loop in
+    (omega arith, control-turn (now (c₂ .args .s)) (l .i) _ (omega arith) (c .if1 .left) (l .inv .1))
 
 returns-2 : tie.Need-returns-2 Inv-loop μ-loop
 returns-2 c = control-end (now (c .before .before .args .s)) (c .before .loop .i) _ (c .loop-test .left) (c .before .loop .inv .1)
