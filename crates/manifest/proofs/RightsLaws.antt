@@ -1,6 +1,6 @@
 -- The laws of `granted`, for callers.
 -- Assumes nothing.
-use mathlib.Core.Path.{_≡_, refl, sym}
+use mathlib.Core.Path.{_≡_, refl, sym, subst}
 use mathlib.Core.Logic.{_⊎_, inl, inr}
 use mathlib.Core.Bool.{Bool, true, false, _&&_, _||_, Bool·beq}
 use mathlib.Core.List.{List, [], _∷_, List·Memᴰ, List·Memᴰ·head, List·Memᴰ·tail, List·Memᴰ·cases-cons, List·Memᴰ·not-nil}
@@ -38,7 +38,7 @@ gives-exact g k out topic e =
     let et = same-true (g .topic) topic (and-right (Bool·beq (g .out) out) _ e′) in
     rw (← ek, ← eo, ← et)
 
-pub gives-asked : (k : ℕ) (out : Bool) (topic : List ℕ) → gives (asked k out topic) k out topic ≡ true
+gives-asked : (k : ℕ) (out : Bool) (topic : List ℕ) → gives (asked k out topic) k out topic ≡ true
 unfolding gives
 gives-asked k out topic = rw (eq-eqb k k refl, beq-refl out, same-refl topic)
 
@@ -57,7 +57,7 @@ or-true : (b : Bool) → (b || true) ≡ true
 or-true true = refl
 or-true false = refl
 
-pub among-any : (gs : List Right) (k : ℕ) (out : Bool) (topic : List ℕ) → List·Memᴰ (asked k out topic) gs → anyGives gs k out topic ≡ true
+among-any : (gs : List Right) (k : ℕ) (out : Bool) (topic : List ℕ) → List·Memᴰ (asked k out topic) gs → anyGives gs k out topic ≡ true
 unfolding anyGives
 among-any [] k out topic m = absurd (List·Memᴰ·not-nil m)
 among-any (g ∷ gs) k out topic m = go (List·Memᴰ·cases-cons m) (λ r. among-any gs k out topic r)
@@ -98,3 +98,12 @@ granted-among gs k out topic m = rw (among-any gs k out topic m) (or-true (out &
 pub granted-in : (gs : List Right) (k : ℕ) (topic : List ℕ) → granted gs k false topic ≡ anyGives gs k false topic
 unfolding granted
 granted-in gs k topic = refl
+
+-- 01: "Repeated grants do nothing."
+pub repeated : (g : Right) (gs : List Right) (k : ℕ) (out : Bool) (topic : List ℕ) → List·Memᴰ g gs → granted (g ∷ gs) k out topic ≡ granted gs k out topic
+unfolding granted anyGives
+repeated g gs k out topic m = go (gives g k out topic) refl
+  where
+    go : (b : Bool) → gives g k out topic ≡ b → ((out && coreTopic topic) || (b || anyGives gs k out topic)) ≡ ((out && coreTopic topic) || anyGives gs k out topic)
+    go true q = rw (among-any gs k out topic (subst (λ (x : Right). List·Memᴰ x gs) (sym (gives-exact g k out topic q)) m))
+    go false q = refl

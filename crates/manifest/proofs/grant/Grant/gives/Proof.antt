@@ -1,11 +1,11 @@
--- `manifest::Grant::gives` meets its contract. Assumes nothing.
+-- `manifest::grant::Grant::gives` meets its contract. Assumes nothing.
 use mathlib.Core.Bool.{Bool·beq}
 use borrow.Author.Needs.{needs}
 use borrow.Author.Tests.{eq-eqb, ne-eqb, not-true, not-false}
 use Rattle.manifest.specs.Rights.{gives}
 use Rattle.manifest.specs.Places.{rightAt}
-use Rattle.manifest.proofs.Grant.gives.Statement.{statement}
-use Rattle.manifest.proofs.Grant.gives.Tie as tie
+use Rattle.manifest.proofs.grant.Grant.gives.Statement.{statement}
+use Rattle.manifest.proofs.grant.Grant.gives.Tie as tie
 
 returns : tie.Need-returns
 unfolding gives rightAt
