@@ -1,18 +1,40 @@
--- The laws that the loop of `granted` asks for, grant by grant: the grants from i on give what all of them give.
+-- The laws that questions ask for: one grant by the tests that `Grant::gives` makes, and the loop of `granted`.
 -- Assumes nothing.
 use mathlib.Core.Path.{_≡_, sym, ap₂, _∙_}
-use mathlib.Core.Bool.{Bool, true, false, _&&_}
+use mathlib.Core.Bool.{Bool, true, false, not, _&&_, Bool·beq}
 use mathlib.Core.List.{List, _∷_, map}
 use Prim.Native.Nat.{ℕ, _+_, _≤_, _<_}
 use native.Mathlib.Numerals.{add-one}
 use native.Mathlib.Omega.{arith}
+use borrow.Author.Tests.{eq-eqb, ne-eqb, not-true, not-false}
 use lib.ListN.{length, getD, take, drop, length-take, drop-of-length-le}
 use lib.Seq.{drop-cons, getD-take}
+use Rattle.le.specs.Splice.{part}
+use Rattle.text.specs.Compare.{sameBytes}
 use Rattle.text.specs.Words.{coreTopic}
 use Rattle.manifest.specs.declared.grant.Grant.{Grant}
 use Rattle.manifest.specs.declared.Manifest.{Manifest}
 use Rattle.manifest.specs.Rights.{gives, anyGives, granted}
 use Rattle.manifest.specs.Places.{rightAt, rightsOf}
+
+-- ---- one grant
+
+module _ (g : Grant) (text : List ℕ) (k : ℕ) (out : Bool) (topic : List ℕ) where
+  pub other-module : (g .holder ≡ k → ⊥) → false ≡ gives (rightAt text g) k out topic
+  unfolding gives rightAt
+  other-module h = rw (ne-eqb (g .holder) k h)
+
+  module _ (h : g .holder ≡ k) where
+    pub other-way : not (Bool·beq (g .out) out) ≡ true → false ≡ gives (rightAt text g) k out topic
+    unfolding gives rightAt
+    other-way q = rw (eq-eqb (g .holder) k h, not-true (Bool·beq (g .out) out) q)
+
+    pub topic-asked : not (Bool·beq (g .out) out) ≡ false → (t : List ℕ) → t ≡ part (g .start) (g .len) text → (b : Bool) → b ≡ sameBytes t topic
+        → b ≡ gives (rightAt text g) k out topic
+    unfolding gives rightAt
+    topic-asked q t et b eb = rw (eq-eqb (g .holder) k h, not-false (Bool·beq (g .out) out) q, ← et) eb
+
+-- ---- grant by grant: the grants from i on give what all of them give
 
 pub record Asking (m : Manifest) (text : List ℕ) (k : ℕ) (out : Bool) (topic : List ℕ) (i : ℕ) : Type 0 where
   pub under : i ≤ m .count

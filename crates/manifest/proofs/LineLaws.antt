@@ -33,6 +33,34 @@ module _ (s : List ℕ) (most : ℕ) (n : Number) (e : n ≡ numberOf s) where
   unfolding oneTo
   one-not q = rw (← e, q)
 
+-- ---- line one, by the tests that `modules_in` makes: it has n fields, and b says whether the first, f, is the word
+
+module _ (l f : List ℕ) (ef : f ≡ field 0 l) (n : ℕ) (en : n ≡ length (fields l)) (b : Bool) (eb : b ≡ sameBytes f modulesWord) where
+  pub modules-are : (eqb n 2 && b) ≡ true → (s : List ℕ) → s ≡ field 1 l → (m : ℕ) → m ≡ oneTo 16 s → m ≡ modulesIn l
+  unfolding modulesIn
+  modules-are q s es m em = rw (← en, ← ef, ← eb, q, ← es) em
+
+  pub modules-none : (eqb n 2 && b) ≡ false → 0 ≡ modulesIn l
+  unfolding modulesIn
+  modules-none q = rw (← en, ← ef, ← eb, q)
+
+-- ---- a grant, by the tests that `grant_form`, `holder_in` and `Grant::at` make
+
+pub form-is : (l f₀ f₂ f₃ : List ℕ) → f₀ ≡ field 0 l → f₂ ≡ field 2 l → f₃ ≡ field 3 l → (n : ℕ) → n ≡ length (fields l)
+    → (b i o g : Bool) → b ≡ sameBytes f₀ grantWord → i ≡ sameBytes f₂ inWord → o ≡ sameBytes f₂ outWord → g ≡ goodTopic f₃
+    → (eqb n 4 && (b && ((i || o) && g))) ≡ grantForm l
+unfolding grantForm
+form-is l f₀ f₂ f₃ e₀ e₂ e₃ n en b i o g eb ei eo eg = rw (← e₀, ← e₂, ← e₃, ← en, ← eb, ← ei, ← eo, ← eg)
+
+module _ (l : List ℕ) (modules : ℕ) (b : Bool) (eb : b ≡ grantForm l) where
+  pub holder-is : b ≡ true → (s : List ℕ) → s ≡ field 1 l → (k : ℕ) → k ≡ oneTo modules s → k ≡ holderIn modules l
+  unfolding holderIn
+  holder-is q s es k ek = rw (← eb, q, ← es) ek
+
+  pub holder-none : b ≡ false → 0 ≡ holderIn modules l
+  unfolding holderIn
+  holder-none q = rw (← eb, q)
+
 -- ---- no number is above its bound
 
 one-most : (most : ℕ) (s : List ℕ) → oneTo most s ≤ most

@@ -1,9 +1,9 @@
--- The laws that `read_grants` and `read` ask for: the loop line by line, and a whole text by the tests that are made of it.
+-- The laws that the reading asks for: the grant of a line, the loop of `read_grants` line by line, and a whole text by the tests that `read` makes.
 -- Assumes nothing.
 use mathlib.Core.Path.{_≡_, refl, sym, ap, _∙_}
-use mathlib.Core.Bool.{Bool, true, false, _&&_, cond}
+use mathlib.Core.Bool.{Bool, true, false, _&&_, cond, and-false}
 use mathlib.Core.List.{List, [], _∷_}
-use Prim.Native.Nat.{ℕ, suc, _+_, _≤_, _<_}
+use Prim.Native.Nat.{ℕ, suc, _+_, _-_, _≤_, _<_}
 use native.Mathlib.Numerals.{add-one}
 use native.Mathlib.Nat.{add-zero, zero-add}
 use native.Mathlib.Omega.{arith}
@@ -11,14 +11,23 @@ use borrow.Author.Tests.{le-leb, lt-leb, lt-ltb, le-ltb}
 use lib.Dec.{leb}
 use lib.ListN.{length, set, drop, length-set}
 use lib.Seq.{sets}
-use Rattle.text.specs.Lines.{lines, lineAt, closed}
+use Rattle.text.specs.Compare.{sameBytes}
+use Rattle.text.specs.Lines.{lines, lineAt, closed, field}
 use Rattle.text.proofs.LinesLaws.{line-next, lines-end, closed-some}
 use Rattle.manifest.specs.declared.grant.Grant.{Grant}
 use Rattle.manifest.specs.declared.Manifest.{Manifest}
+use Rattle.manifest.specs.Words.{outWord}
 use Rattle.manifest.specs.Line.{modulesIn, holderIn}
 use Rattle.manifest.specs.Saying.{allGrants, goodGrants, modulesOf, goodHead}
 use Rattle.manifest.specs.Places.{noGrants, grantAt, grantsAt, refused, readLines, grantsStart, readOf}
 use Rattle.manifest.proofs.PlacesLaws.{grants-behind}
+
+-- ---- the grant of a line, by its third and fourth field
+
+pub grant-is : (l way topic : List ℕ) → way ≡ field 2 l → topic ≡ field 3 l → (modules end k : ℕ) → k ≡ holderIn modules l
+    → (o : Bool) → o ≡ sameBytes way outWord → record { holder = k; out = o; start = end - length topic; len = length topic } ≡ grantAt modules end l
+unfolding grantAt
+grant-is l way topic ew et modules end k ek o eo = rw (← ew, ← et, ← ek, ← eo)
 
 -- ---- lines read behind i grants that the room has already. `all` is what the whole gives.
 
@@ -34,10 +43,6 @@ unfolding readBehind readLines goodGrants
 behind-none modules at ls = rw (zero-add (length ls))
 
 module _ (modules at i : ℕ) (gs : List Grant) (all : Manifest) where
-  both : (a : Bool) (x : Manifest) → cond (a && false) x refused ≡ all → refused ≡ all
-  both true x e = e
-  both false x e = e
-
   read-end : i ≤ 64 → readBehind modules at i gs [] ≡ all → record { good = true; modules = modules; count = i; grants = gs } ≡ all
   unfolding readBehind allGrants grantsAt
   read-end h inv = rw (add-zero i, le-leb i 64 h) at inv
@@ -49,7 +54,7 @@ module _ (modules at i : ℕ) (gs : List Grant) (all : Manifest) where
 
     read-bad : holderIn modules l ≡ 0 → refused ≡ all
     unfolding readBehind allGrants
-    read-bad z = both (leb (i + suc (length ls)) 64) _ (rw (le-ltb 0 (holderIn modules l) (omega arith)) at inv)
+    read-bad z = rw (le-ltb 0 (holderIn modules l) (omega arith), and-false (leb (i + suc (length ls)) 64)) at inv
 
     read-turn : (end : ℕ) → end ≡ at + length l → (holderIn modules l ≡ 0 → ⊥)
         → readBehind modules (end + 1) (i + 1) (set gs i (grantAt modules end l)) ls ≡ all

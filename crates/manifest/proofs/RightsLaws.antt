@@ -2,10 +2,9 @@
 -- Assumes nothing.
 use mathlib.Core.Path.{_≡_, refl, sym, subst}
 use mathlib.Core.Logic.{_⊎_, inl, inr}
-use mathlib.Core.Bool.{Bool, true, false, _&&_, _||_, Bool·beq}
+use mathlib.Core.Bool.{Bool, true, false, _&&_, _||_, Bool·beq, true≢false, or-true}
 use mathlib.Core.List.{List, [], _∷_, List·Memᴰ, List·Memᴰ·head, List·Memᴰ·tail, List·Memᴰ·cases-cons, List·Memᴰ·not-nil}
 use Prim.Native.Nat.{ℕ}
-use native.Mathlib.Omega.{arith}
 use borrow.Author.Tests.{eqb-true, eq-eqb}
 use lib.Dec.{eqb}
 use Rattle.text.specs.Compare.{sameBytes}
@@ -45,17 +44,13 @@ gives-asked k out topic = rw (eq-eqb k k refl, beq-refl out, same-refl topic)
 -- some grant gives it: just where it is among the grants
 pub any-among : (gs : List Right) (k : ℕ) (out : Bool) (topic : List ℕ) → anyGives gs k out topic ≡ true → List·Memᴰ (asked k out topic) gs
 unfolding anyGives
-any-among [] k out topic e = let z : _≡_ {A = ℕ} 0 1 = cc in absurd (omega arith)
+any-among [] k out topic e = absurd (true≢false (sym e))
 any-among (g ∷ gs) k out topic e = go (gives g k out topic) refl e (λ r. any-among gs k out topic r)
   where
     go : (b : Bool) → gives g k out topic ≡ b → (b || anyGives gs k out topic) ≡ true
         → (anyGives gs k out topic ≡ true → List·Memᴰ (asked k out topic) gs) → List·Memᴰ (asked k out topic) (g ∷ gs)
     go true q r ih = List·Memᴰ·head (gives-exact g k out topic q)
     go false q r ih = List·Memᴰ·tail (ih r)
-
-or-true : (b : Bool) → (b || true) ≡ true
-or-true true = refl
-or-true false = refl
 
 among-any : (gs : List Right) (k : ℕ) (out : Bool) (topic : List ℕ) → List·Memᴰ (asked k out topic) gs → anyGives gs k out topic ≡ true
 unfolding anyGives
@@ -100,10 +95,12 @@ unfolding granted
 granted-in gs k topic = refl
 
 -- 01: "Repeated grants do nothing."
-pub repeated : (g : Right) (gs : List Right) (k : ℕ) (out : Bool) (topic : List ℕ) → List·Memᴰ g gs → granted (g ∷ gs) k out topic ≡ granted gs k out topic
+pub repeated : (g : Right) (gs : List Right) (k : ℕ) (out : Bool) (topic : List ℕ) → List·Memᴰ g gs
+    → granted (g ∷ gs) k out topic ≡ granted gs k out topic
 unfolding granted anyGives
 repeated g gs k out topic m = go (gives g k out topic) refl
   where
-    go : (b : Bool) → gives g k out topic ≡ b → ((out && coreTopic topic) || (b || anyGives gs k out topic)) ≡ ((out && coreTopic topic) || anyGives gs k out topic)
+    go : (b : Bool) → gives g k out topic ≡ b
+        → ((out && coreTopic topic) || (b || anyGives gs k out topic)) ≡ ((out && coreTopic topic) || anyGives gs k out topic)
     go true q = rw (among-any gs k out topic (subst (λ (x : Right). List·Memᴰ x gs) (sym (gives-exact g k out topic q)) m))
     go false q = refl
