@@ -1,23 +1,23 @@
--- `edges_manifest::grants` ends, and is safe. Assumes nothing.
+-- `edges_manifest::limits::repeat` ends, and is safe. Assumes nothing.
 use mathlib.Core.Path.{_≡_, refl}
 use Prim.Native.Nat.{_≤_, _-_}
 use native.Mathlib.Omega.{arith}
 use borrow.Author.Needs.{needs}
 use lib.ListN.{length}
-use Rattle.edges_manifest.proofs.grants.Statement.{statement}
-use Rattle.edges_manifest.proofs.grants.Tie as tie
+use Rattle.edges_manifest.proofs.limits.repeat.Statement.{statement}
+use Rattle.edges_manifest.proofs.limits.repeat.Tie as tie
 
 abbrev Inv-loop : tie.InvT-loop
-Inv-loop text₀ from n times at₀ i₀ text at i = (i ≤ times) × (length text ≡ length text₀)
+Inv-loop text₀ from piece times at₀ i₀ text at i = (i ≤ times) × (length text ≡ length text₀)
 
 abbrev μ-loop : tie.MeasureT-loop
-μ-loop text₀ from n times at₀ i₀ text at i = times - i
+μ-loop text₀ from piece times at₀ i₀ text at i = times - i
 
 loop-holds : tie.Need-loop-holds Inv-loop μ-loop
 loop-holds c = (omega arith, refl)
 
-grant-requires : tie.Need-grant-requires Inv-loop μ-loop
-grant-requires c κs = search needs
+add-requires : tie.Need-add-requires Inv-loop μ-loop
+add-requires c κs = search needs
 
 add-i : tie.Need-add-i Inv-loop μ-loop
 add-i c = omega arith
@@ -34,14 +34,14 @@ same-length c = search needs
 returns : tie.Need-returns Inv-loop μ-loop
 returns c = search needs
 
-pub grants-spec : {M : Type 1} → statement M
-grants-spec =
+pub repeat-spec : {M : Type 1} → statement M
+repeat-spec =
     tie.close
     (tie.spec
     Inv-loop
     μ-loop
     loop-holds
-    grant-requires
+    add-requires
     add-i
     loop-less
     loop-again
