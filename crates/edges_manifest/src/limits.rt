@@ -1,5 +1,6 @@
 // Texts too long for a literal: 64 lines, topics of 2,048 bytes, 65,536 bytes in all.
-use crate::show;
+use crate::show::answer;
+use crate::show::say;
 use le::cut;
 
 // `piece` behind the first `at` bytes, where it fits.
@@ -46,7 +47,8 @@ fn repeated(name: &[u8], times: usize) {
     let mut text = [0u8; 2048];
     let at = add(&mut text, 0, b"modules\t1\n");
     let end = repeat(&mut text, at, b"grant\t1\tin\ta\n", times);
-    show::read(name, cut(&text, 0, end));
+    say(name);
+    answer(cut(&text, 0, end));
 }
 
 pub(crate) fn lines() {
@@ -61,7 +63,8 @@ fn sized(name: &[u8], times: usize, n: usize) {
     let at = add(&mut text, 0, b"modules\t1\n");
     let last = grants(&mut text, at, 2048, times);
     let end = grant(&mut text, last, n);
-    show::read(name, cut(&text, 0, end));
+    say(name);
+    answer(cut(&text, 0, end));
 }
 
 pub(crate) fn sizes() {

@@ -1,145 +1,80 @@
-// What a manifest grants, asked with a module, a direction (true is `out`) and a topic.
+// What a manifest grants a module.
 use crate::limits::add;
 use crate::limits::repeat;
 use crate::show::ask;
+use crate::show::grants_in;
+use crate::show::grants_out;
+use crate::show::read;
+use crate::show::say;
 use le::cut;
 use manifest::Manifest;
 use manifest::grant::Grant;
 
-pub(crate) fn modules_and_topics() {
+pub(crate) fn modules() {
     let text =
-        b"modules\t16\ngrant\t1\tout\tloop/take\ngrant\t1\tin\tloop/take\ngrant\t16\tin\tloop/take\ngrant\t2\tout\tloop/take\n";
-    let m = Manifest::read(text);
-    ask(b"1 out loop/take", m, text, 1, true, b"loop/take");
-    ask(b"1 in loop/take", m, text, 1, false, b"loop/take");
-    ask(b"2 out loop/take", m, text, 2, true, b"loop/take");
-    ask(b"2 in loop/take", m, text, 2, false, b"loop/take");
-    ask(b"16 in loop/take", m, text, 16, false, b"loop/take");
-    ask(b"16 out loop/take", m, text, 16, true, b"loop/take");
-    ask(b"0 in loop/take", m, text, 0, false, b"loop/take");
-    ask(b"17 in loop/take", m, text, 17, false, b"loop/take");
-    ask(b"1 in loop/takes", m, text, 1, false, b"loop/takes");
-    ask(b"1 in loop/tak", m, text, 1, false, b"loop/tak");
-    ask(b"1 in loop/", m, text, 1, false, b"loop/");
-    ask(b"1 in oop/take", m, text, 1, false, b"oop/take");
-    ask(b"1 in Loop/take", m, text, 1, false, b"Loop/take");
-    ask(b"1 in an empty topic", m, text, 1, false, b"");
+        b"modules\t16\ngrant\t1\tout\tloop/take\ngrant\t2\tin\tloop/take\ngrant\t16\tin\tloop/take\n";
+    read(text);
+    grants_out(text, 1, b"loop/take");
+    grants_in(text, 1, b"loop/take");
+    grants_out(text, 2, b"loop/take");
+    grants_in(text, 2, b"loop/take");
+    grants_in(text, 16, b"loop/take");
+    grants_in(text, 3, b"loop/take");
+    grants_in(text, 0, b"loop/take");
+    grants_in(text, 17, b"loop/take");
 }
 
-pub(crate) fn core_topics() {
-    let text = b"modules\t3\ngrant\t2\tin\tfilament/core/log\ngrant\t3\tout\tfilament/core/log\n";
-    let m = Manifest::read(text);
-    ask(
-        b"1 out filament/core/log",
-        m,
-        text,
-        1,
-        true,
-        b"filament/core/log",
-    );
-    ask(
-        b"1 out filament/core/panic",
-        m,
-        text,
-        1,
-        true,
-        b"filament/core/panic",
-    );
-    ask(
-        b"3 out filament/core/log",
-        m,
-        text,
-        3,
-        true,
-        b"filament/core/log",
-    );
-    ask(
-        b"1 in filament/core/log",
-        m,
-        text,
-        1,
-        false,
-        b"filament/core/log",
-    );
-    ask(
-        b"1 in filament/core/panic",
-        m,
-        text,
-        1,
-        false,
-        b"filament/core/panic",
-    );
-    ask(
-        b"2 in filament/core/log",
-        m,
-        text,
-        2,
-        false,
-        b"filament/core/log",
-    );
-    ask(
-        b"2 in filament/core/panic",
-        m,
-        text,
-        2,
-        false,
-        b"filament/core/panic",
-    );
-    ask(
-        b"3 in filament/core/log",
-        m,
-        text,
-        3,
-        false,
-        b"filament/core/log",
-    );
-    ask(b"1 out filament/core/", m, text, 1, true, b"filament/core/");
-    ask(
-        b"1 out filament/core/logs",
-        m,
-        text,
-        1,
-        true,
-        b"filament/core/logs",
-    );
-    ask(
-        b"1 out filament/core/pani",
-        m,
-        text,
-        1,
-        true,
-        b"filament/core/pani",
-    );
-    ask(
-        b"1 out Filament/core/log",
-        m,
-        text,
-        1,
-        true,
-        b"Filament/core/log",
-    );
+pub(crate) fn topics() {
+    let text = b"modules\t1\ngrant\t1\tin\tloop/take\n";
+    read(text);
+    grants_in(text, 1, b"loop/take");
+    grants_in(text, 1, b"loop/takes");
+    grants_in(text, 1, b"loop/tak");
+    grants_in(text, 1, b"loop/");
+    grants_in(text, 1, b"oop/take");
+    grants_in(text, 1, b"Loop/take");
+    grants_in(text, 1, b"");
 }
 
-// The last of 64 grants counts.
-fn last_of_64() {
+pub(crate) fn core_out() {
+    let text = b"modules\t2\ngrant\t2\tout\tfilament/core/log\n";
+    read(text);
+    grants_out(text, 1, b"filament/core/log");
+    grants_out(text, 1, b"filament/core/panic");
+    grants_out(text, 2, b"filament/core/log");
+    grants_in(text, 2, b"filament/core/log");
+    grants_out(text, 1, b"filament/core/");
+    grants_out(text, 1, b"filament/core/logs");
+    grants_out(text, 1, b"filament/core/pani");
+    grants_out(text, 1, b"Filament/core/log");
+}
+
+pub(crate) fn core_in() {
+    let text = b"modules\t2\ngrant\t2\tin\tfilament/core/log\n";
+    read(text);
+    grants_in(text, 1, b"filament/core/log");
+    grants_in(text, 1, b"filament/core/panic");
+    grants_in(text, 2, b"filament/core/log");
+    grants_in(text, 2, b"filament/core/panic");
+}
+
+pub(crate) fn bad_manifest() {
+    let text = b"modules\t1\ngrant\t1\tin\tloop/take";
+    read(text);
+    grants_in(text, 1, b"loop/take");
+}
+
+pub(crate) fn last_of_64() {
     let mut text = [0u8; 2048];
     let at = add(&mut text, 0, b"modules\t1\n");
     let last = repeat(&mut text, at, b"grant\t1\tin\ta\n", 63);
     let end = add(&mut text, last, b"grant\t1\tin\tlast\n");
-    let shown = cut(&text, 0, end);
-    let m = Manifest::read(shown);
-    ask(
-        b"1 in the topic of the last of 64 grants",
-        m,
-        shown,
-        1,
-        false,
-        b"last",
-    );
+    say(b"64 grants, the last for `last`: ");
+    grants_in(cut(&text, 0, end), 1, b"last");
 }
 
 // A manifest that no text was read to: places and a count beyond everything.
-fn made_by_hand() {
+pub(crate) fn made_by_hand() {
     let far = Grant {
         holder: 1,
         out: false,
@@ -153,35 +88,8 @@ fn made_by_hand() {
         grants: [far; 64],
     };
     let text = b"modules\t1\n";
-    ask(
-        b"made by hand, 1 in loop/take",
-        m,
-        text,
-        1,
-        false,
-        b"loop/take",
-    );
-    ask(
-        b"made by hand, 1 out filament/core/log",
-        m,
-        text,
-        1,
-        true,
-        b"filament/core/log",
-    );
-}
-
-pub(crate) fn other_manifests() {
-    let bad = b"modules\t1\ngrant\t1\tin\tloop/take";
-    let refused = Manifest::read(bad);
-    ask(
-        b"a bad manifest, 1 in loop/take",
-        refused,
-        bad,
-        1,
-        false,
-        b"loop/take",
-    );
-    last_of_64();
-    made_by_hand();
+    say(b"made by hand: ");
+    ask(m, text, 1, false, b"loop/take");
+    say(b"made by hand: ");
+    ask(m, text, 1, true, b"filament/core/log");
 }

@@ -1,8 +1,8 @@
-// What is written: a case's name, and the answer.
+// What is written: a case, and the answer.
 use libc::STDOUT_FILENO;
 use manifest::Manifest;
 
-fn say(bytes: &[u8]) {
+pub(crate) fn say(bytes: &[u8]) {
     io::write_all(STDOUT_FILENO, bytes);
 }
 
@@ -10,9 +10,33 @@ fn number(n: u64) {
     io::print_decimal(STDOUT_FILENO, n);
 }
 
-pub(crate) fn read(name: &[u8], text: &[u8]) {
+// A tab is shown as `|`, byte 10 as `;`, any other byte that is no letter, digit or sign of ASCII by its number, as `<1f>`.
+fn byte(b: u8) {
+    if b == b'\t' {
+        say(b"|");
+    } else if b == b'\n' {
+        say(b";");
+    } else if (b < 32) | (126 < b) {
+        say(b"<");
+        io::print_hex(STDOUT_FILENO, b as u64, 2);
+        say(b">");
+    } else {
+        let one = [b];
+        say(&one);
+    }
+}
+
+fn bytes(s: &[u8]) {
+    let mut i = 0;
+    while i < s.len() {
+        byte(s[i]);
+        i += 1;
+    }
+}
+
+// What a text is read as.
+pub(crate) fn answer(text: &[u8]) {
     let m = Manifest::read(text);
-    say(name);
     if m.good {
         say(b": good, modules ");
         number(m.modules);
@@ -24,11 +48,31 @@ pub(crate) fn read(name: &[u8], text: &[u8]) {
     }
 }
 
-pub(crate) fn ask(name: &[u8], m: Manifest, text: &[u8], module: u64, out: bool, topic: &[u8]) {
-    say(name);
+pub(crate) fn read(text: &[u8]) {
+    bytes(text);
+    answer(text);
+}
+
+// What a manifest of the text answers; `out` or else `in`.
+pub(crate) fn ask(m: Manifest, text: &[u8], module: u64, out: bool, topic: &[u8]) {
+    number(module);
+    if out {
+        say(b" out ");
+    } else {
+        say(b" in ");
+    }
+    bytes(topic);
     if m.granted(text, module, out, topic) {
         say(b": yes\n");
     } else {
         say(b": no\n");
     }
+}
+
+pub(crate) fn grants_in(text: &[u8], module: u64, topic: &[u8]) {
+    ask(Manifest::read(text), text, module, false, topic);
+}
+
+pub(crate) fn grants_out(text: &[u8], module: u64, topic: &[u8]) {
+    ask(Manifest::read(text), text, module, true, topic);
 }
