@@ -32,16 +32,6 @@ fn grant(text: &mut [u8], from: usize, n: usize) -> usize {
     add(text, end, b"\n")
 }
 
-fn grants(text: &mut [u8], from: usize, n: usize, times: usize) -> usize {
-    let mut at = from;
-    let mut i = 0;
-    while i < times {
-        at = grant(text, at, n);
-        i += 1;
-    }
-    at
-}
-
 // One module, and a grant a number of times.
 fn repeated(name: &[u8], times: usize) {
     let mut text = [0u8; 2048];
@@ -59,9 +49,11 @@ pub(crate) fn lines() {
 
 // One module, grants with topics of 2,048 bytes, and one with a topic of n bytes: 10 bytes of line one, 2,060 for each, and n + 12.
 fn sized(name: &[u8], times: usize, n: usize) {
+    let mut longest = [0u8; 2060];
+    let full = grant(&mut longest, 0, 2048);
     let mut text = [0u8; 132000];
     let at = add(&mut text, 0, b"modules\t1\n");
-    let last = grants(&mut text, at, 2048, times);
+    let last = repeat(&mut text, at, cut(&longest, 0, full), times);
     let end = grant(&mut text, last, n);
     say(name);
     answer(cut(&text, 0, end));

@@ -2,6 +2,7 @@
 use crate::reading::holder_in;
 use le::cut;
 use text::compare::same;
+use text::limits::Limits;
 use text::lines::field;
 ghost use mathlib.Core.Path.{_≡_};
 ghost use Prim.Native.Nat.{_≤_};
@@ -19,7 +20,7 @@ pub struct Grant {
 
 impl Grant {
     // Room for 64 grants, none of it taken.
-    pub(crate) fn none() -> [Grant; 64]
+    pub(crate) fn none() -> [Grant; Limits::GRANTS]
         ensures { λ r. ⌜ r ≡ noGrants ⌝ }
     {
         let free = Grant {
@@ -28,7 +29,7 @@ impl Grant {
             start: 0,
             len: 0,
         };
-        [free; 64]
+        [free; Limits::GRANTS]
     }
 
     // The grant of a line that ends at `end` of the text; its holder is 0 where the line is no grant.

@@ -21,7 +21,7 @@ pub struct Manifest {
     pub good: bool,
     pub modules: u64,
     pub count: usize,
-    pub grants: [Grant; 64],
+    pub grants: [Grant; Limits::GRANTS],
 }
 
 impl Manifest {
