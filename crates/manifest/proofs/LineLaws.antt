@@ -1,0 +1,109 @@
+-- The laws of one line: those that the proof of `one_to` cites, and what a line that is a grant is like.
+-- Assumes nothing.
+use mathlib.Core.Path.{_≡_, refl}
+use mathlib.Core.Bool.{Bool, true, false, _&&_, _||_, cond}
+use mathlib.Core.List.{List}
+use Prim.Native.Nat.{ℕ, _≤_, _<_}
+use native.Mathlib.Omega.{arith}
+use borrow.Author.Tests.{leb-true, eqb-true, le-leb, lt-leb}
+use lib.Dec.{leb, ltb, eqb}
+use lib.ListN.{length}
+use Rattle.le.proofs.TestLaws.{and-left, and-right}
+use Rattle.text.specs.declared.decimal.Number.{Number}
+use Rattle.text.specs.declared.decimal.Number.the-variants.{Is, Not}
+use Rattle.text.specs.Topic.{goodTopic}
+use Rattle.text.specs.Compare.{sameBytes}
+use Rattle.text.specs.Decimal.{numberOf}
+use Rattle.text.specs.Lines.{fields, field}
+use Rattle.manifest.specs.Words.{modulesWord, grantWord, inWord, outWord}
+use Rattle.manifest.specs.Line.{atMost, oneTo, modulesIn, grantForm, holderIn}
+
+-- ---- a number, by what `read_number` answers
+
+module _ (s : List ℕ) (most : ℕ) (n : Number) (e : n ≡ numberOf s) where
+  pub one-is : (k : ℕ) → n ≡ Is k → k ≤ most → k ≡ oneTo most s
+  unfolding oneTo
+  one-is k q h = rw (← e, q, le-leb k most h)
+
+  pub one-over : (k : ℕ) → n ≡ Is k → most < k → 0 ≡ oneTo most s
+  unfolding oneTo
+  one-over k q h = rw (← e, q, lt-leb k most h)
+
+  pub one-not : n ≡ Not → 0 ≡ oneTo most s
+  unfolding oneTo
+  one-not q = rw (← e, q)
+
+-- ---- line one, by the tests that `modules_in` makes: it has n fields, and b says whether the first, f, is the word
+
+module _ (l f : List ℕ) (ef : f ≡ field 0 l) (n : ℕ) (en : n ≡ length (fields l)) (b : Bool) (eb : b ≡ sameBytes f modulesWord) where
+  pub modules-are : (eqb n 2 && b) ≡ true → (s : List ℕ) → s ≡ field 1 l → (m : ℕ) → m ≡ oneTo 16 s → m ≡ modulesIn l
+  unfolding modulesIn
+  modules-are q s es m em = rw (← en, ← ef, ← eb, q, ← es) em
+
+  pub modules-none : (eqb n 2 && b) ≡ false → 0 ≡ modulesIn l
+  unfolding modulesIn
+  modules-none q = rw (← en, ← ef, ← eb, q)
+
+-- ---- a grant, by the tests that `grant_form`, `holder_in` and `Grant::at` make
+
+pub form-is : (l f₀ f₂ f₃ : List ℕ) → f₀ ≡ field 0 l → f₂ ≡ field 2 l → f₃ ≡ field 3 l → (n : ℕ) → n ≡ length (fields l)
+    → (b i o g : Bool) → b ≡ sameBytes f₀ grantWord → i ≡ sameBytes f₂ inWord → o ≡ sameBytes f₂ outWord → g ≡ goodTopic f₃
+    → (eqb n 4 && (b && ((i || o) && g))) ≡ grantForm l
+unfolding grantForm
+form-is l f₀ f₂ f₃ e₀ e₂ e₃ n en b i o g eb ei eo eg = rw (← e₀, ← e₂, ← e₃, ← en, ← eb, ← ei, ← eo, ← eg)
+
+module _ (l : List ℕ) (modules : ℕ) (b : Bool) (eb : b ≡ grantForm l) where
+  pub holder-is : b ≡ true → (s : List ℕ) → s ≡ field 1 l → (k : ℕ) → k ≡ oneTo modules s → k ≡ holderIn modules l
+  unfolding holderIn
+  holder-is q s es k ek = rw (← eb, q, ← es) ek
+
+  pub holder-none : b ≡ false → 0 ≡ holderIn modules l
+  unfolding holderIn
+  holder-none q = rw (← eb, q)
+
+-- ---- no number is above its bound
+
+one-most : (most : ℕ) (s : List ℕ) → oneTo most s ≤ most
+unfolding oneTo
+one-most most s = go (numberOf s)
+  where
+    pick : (n : ℕ) (b : Bool) → leb n most ≡ b → cond b n 0 ≤ most
+    pick n true e = leb-true n most e
+    pick n false e = omega arith
+
+    go : (n : Number) → atMost most n ≤ most
+    go Not = omega arith
+    go (Is n) = pick n (leb n most) refl
+
+-- nor is it where only a line of the right form has one
+one-where : (b : Bool) (most : ℕ) (s : List ℕ) → cond b (oneTo most s) 0 ≤ most
+one-where true most s = one-most most s
+one-where false most s = omega arith
+
+pub modules-most : (l : List ℕ) → modulesIn l ≤ 16
+unfolding modulesIn
+modules-most l = one-where (eqb (length (fields l)) 2 && sameBytes (field 0 l) modulesWord) 16 (field 1 l)
+
+pub holder-most : (modules : ℕ) (l : List ℕ) → holderIn modules l ≤ modules
+unfolding holderIn
+holder-most modules l = one-where (grantForm l) modules (field 1 l)
+
+-- ---- a line that is a grant
+
+pub holder-form : (modules : ℕ) (l : List ℕ) → ltb 0 (holderIn modules l) ≡ true → grantForm l ≡ true
+unfolding holderIn
+holder-form modules l h = go (grantForm l) h
+  where
+    go : (b : Bool) → ltb 0 (cond b (oneTo modules (field 1 l)) 0) ≡ true → b ≡ true
+    go true r = refl
+    go false r = r
+
+pub form-four : (l : List ℕ) → grantForm l ≡ true → length (fields l) ≡ 4
+unfolding grantForm
+form-four l q = eqb-true (length (fields l)) 4 (and-left (eqb (length (fields l)) 4) _ q)
+
+pub form-topic : (l : List ℕ) → grantForm l ≡ true → goodTopic (field 3 l) ≡ true
+unfolding grantForm
+form-topic l q =
+    and-right (sameBytes (field 2 l) inWord || sameBytes (field 2 l) outWord) _
+    (and-right (sameBytes (field 0 l) grantWord) _ (and-right (eqb (length (fields l)) 4) _ q))

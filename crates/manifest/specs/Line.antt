@@ -1,0 +1,43 @@
+-- 01, "The manifest": what one line says. 0 stands for "none", as no number of a manifest may be 0.
+-- Assumes nothing.
+use mathlib.Core.Bool.{Bool, _&&_, _||_, cond}
+use mathlib.Core.List.{List}
+use Prim.Native.Nat.{ℕ}
+use lib.Dec.{leb, eqb}
+use lib.ListN.{length}
+use Rattle.text.specs.declared.decimal.Number.{Number}
+use Rattle.text.specs.declared.decimal.Number.the-variants.{Is, Not}
+use Rattle.text.specs.Topic.{goodTopic}
+use Rattle.text.specs.Compare.{sameBytes}
+use Rattle.text.specs.Lines.{fields, field}
+use Rattle.text.specs.Decimal.{numberOf}
+use Rattle.manifest.specs.Words.{modulesWord, grantWord, inWord, outWord}
+use Rattle.manifest.specs.Rights.{Right}
+
+-- a number that may be at most `most`, 0 for any other and for none
+abbrev pub atMost : ℕ → Number → ℕ
+atMost most Not = 0
+atMost most (Is n) = cond (leb n most) n 0
+
+-- "Numbers are decimal without leading zeros": the number from 1 to `most` that the bytes write, 0 where they write none
+unfoldable pub oneTo : ℕ → List ℕ → ℕ
+oneTo most s = atMost most (numberOf s)
+
+-- "fields parted by one tab", "Line one: `modules`, then 1 to 16.": that number, 0 for any other line
+unfoldable pub modulesIn : List ℕ → ℕ
+modulesIn line = cond (eqb (length (fields line)) 2 && sameBytes (field 0 line) modulesWord) (oneTo 16 (field 1 line)) 0
+
+-- "`grant`, module number, `in` or `out`, topic", but for the module number. "A topic .. has a length within its sizes and is UTF-8 with no byte from 0
+-- to 31": so it holds no tab, and no byte 10.
+unfoldable pub grantForm : List ℕ → Bool
+grantForm line =
+    eqb (length (fields line)) 4
+    && (sameBytes (field 0 line) grantWord && ((sameBytes (field 2 line) inWord || sameBytes (field 2 line) outWord) && goodTopic (field 3 line)))
+
+-- "a module number is at most the count": the module that a line grants something, 0 for a line that is no grant
+unfoldable pub holderIn : ℕ → List ℕ → ℕ
+holderIn modules line = cond (grantForm line) (oneTo modules (field 1 line)) 0
+
+-- what a line that is a grant gives
+unfoldable pub rightIn : ℕ → List ℕ → Right
+rightIn modules line = record { holder = holderIn modules line; out = sameBytes (field 2 line) outWord; topic = field 3 line }

@@ -1,0 +1,113 @@
+// The manifest: how many modules there are, and which of them may write, read and list which topics.
+//
+// A text is read once a call, to the places of its grants: nothing is copied, and each question is then a few comparisons.
+use crate::grant::Grant;
+use crate::reading::modules_in;
+use text::limits::Limits;
+use text::lines::closed;
+use text::lines::line;
+use text::words::is_core;
+ghost use mathlib.Core.Path.{_≡_};
+ghost use lib.ListN.{drop};
+ghost use Rattle.text.specs.Lines.{lines};
+ghost use Rattle.manifest.specs.Rights.{granted};
+ghost use Rattle.manifest.specs.Places.{refused, readLines, readOf, rightsOf};
+
+pub mod grant;
+mod reading;
+
+// What a text is read as. The first `count` grants are its own; where it is not good all is 0.
+pub struct Manifest {
+    pub good: bool,
+    pub modules: u64,
+    pub count: usize,
+    pub grants: [Grant; Limits::GRANTS],
+}
+
+impl Manifest {
+    // What a bad text is read as.
+    fn refused() -> Manifest
+        ensures { λ r. ⌜ r ≡ refused ⌝ }
+    {
+        let grants = Grant::none();
+        Manifest {
+            good: false,
+            modules: 0,
+            count: 0,
+            grants,
+        }
+    }
+
+    // The lines from `at` on, each of which must be a grant.
+    fn read_grants(text: &[u8], at: usize, modules: u64) -> Manifest
+        ensures { λ r. ⌜ r ≡ readLines modules at (lines (drop at (now (text .entry)))) ⌝ }
+    {
+        let mut grants = Grant::none();
+        let mut count: usize = 0;
+        let mut from = at;
+        while from < text.len() {
+            if Limits::GRANTS <= count {
+                return Manifest::refused();
+            }
+            let here = line(text, from);
+            let end = from + here.len();
+            let g = Grant::at(here, end, modules);
+            if g.holder == 0 {
+                return Manifest::refused();
+            }
+            grants[count] = g;
+            count += 1;
+            from = end + 1;
+        }
+        Manifest {
+            good: true,
+            modules,
+            count,
+            grants,
+        }
+    }
+
+    // The manifest that a text is; for a text that is none, one that is not good.
+    pub fn read(text: &[u8]) -> Manifest
+        ensures { λ r. ⌜ r ≡ readOf (now (text .entry)) ⌝ }
+    {
+        if Limits::MANIFEST < text.len() {
+            return Manifest::refused();
+        }
+        if closed(text) {
+            let one = line(text, 0);
+            let modules = modules_in(one);
+            if modules == 0 {
+                return Manifest::refused();
+            }
+            // A line that may be left out, as A6's `policy` and A11's `charge`, would be looked for here and move `at` behind itself.
+            let at = one.len() + 1;
+            Manifest::read_grants(text, at, modules)
+        } else {
+            Manifest::refused()
+        }
+    }
+
+    // Whether a module may write (`out`), or read and list (not `out`), a topic, by this manifest of the text. One that was read from no text, or from
+    // another, is answered too: its places give what bytes stand there, and grants past the 64 are none.
+    pub fn granted(self, text: &[u8], holder: u64, out: bool, topic: &[u8]) -> bool
+        ensures { λ r. ⌜ r ≡ granted (rightsOf self (now (text .entry))) holder out (now (topic .entry)) ⌝ }
+    {
+        if out & is_core(topic) {
+            return true;
+        }
+        let n = self.count;
+        let mut i = 0;
+        while i < n {
+            if Limits::GRANTS <= i {
+                return false;
+            }
+            let g = self.grants[i];
+            if g.gives(text, holder, out, topic) {
+                return true;
+            }
+            i += 1;
+        }
+        false
+    }
+}

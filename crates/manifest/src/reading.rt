@@ -1,0 +1,54 @@
+// One line of a manifest. 0 stands for "none", as no number of a manifest may be 0: what a line says and whether it is good are one answer.
+use text::compare::same;
+use text::decimal::Number;
+use text::decimal::read_number;
+use text::limits::Limits;
+use text::lines::field;
+use text::lines::field_count;
+use text::topic::good_topic;
+ghost use mathlib.Core.Path.{_≡_};
+ghost use Rattle.manifest.specs.Line.{oneTo, modulesIn, grantForm, holderIn};
+
+// The number from 1 to `most` that the bytes write, 0 where they write none.
+fn one_to(s: &[u8], most: u64) -> u64
+    ensures { λ r. ⌜ r ≡ oneTo most (now (s .entry)) ⌝ }
+{
+    let n = read_number(s);
+    match n {
+        Number::Is(k) => { if k <= most { k } else { 0 } }
+        Number::Not => 0,
+    }
+}
+
+// The number of modules that line one says, 0 where it is no line one.
+pub(crate) fn modules_in(line: &[u8]) -> u64
+    ensures { λ r. ⌜ r ≡ modulesIn (now (line .entry)) ⌝ }
+{
+    if (field_count(line) == 2) & same(field(line, 0), b"modules") {
+        one_to(field(line, 1), Limits::MODULES)
+    } else {
+        0
+    }
+}
+
+// Whether a line is a grant, but for its module number.
+fn grant_form(line: &[u8]) -> bool
+    ensures { λ r. ⌜ r ≡ grantForm (now (line .entry)) ⌝ }
+{
+    let fields = field_count(line) == 4;
+    let word = same(field(line, 0), b"grant");
+    let way = field(line, 2);
+    let direction = same(way, b"in") | same(way, b"out");
+    fields & (word & (direction & good_topic(field(line, 3))))
+}
+
+// The module that a line grants something, 0 where the line is no grant.
+pub(crate) fn holder_in(line: &[u8], modules: u64) -> u64
+    ensures { λ r. ⌜ r ≡ holderIn modules (now (line .entry)) ⌝ }
+{
+    if grant_form(line) {
+        one_to(field(line, 1), modules)
+    } else {
+        0
+    }
+}
