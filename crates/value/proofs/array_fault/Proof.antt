@@ -1,0 +1,17 @@
+-- `value::array_fault` meets its contract: the span's test is the callee's. Assumes nothing.
+use mathlib.Core.Path.{sym, _∙_}
+use Rattle.value.specs.Values.{arrayFault}
+use borrow.Author.Needs.{needs}
+use Rattle.value.proofs.array_fault.Statement.{statement}
+use Rattle.value.proofs.array_fault.Tie as tie
+
+returns : tie.Need-returns
+unfolding arrayFault
+returns c = rw (sym (c .before .inside .ensures) ∙ c .if1 .taken)
+
+returns-2 : tie.Need-returns-2
+unfolding arrayFault
+returns-2 c = rw (sym (c .before .inside .ensures) ∙ c .if1 .left)
+
+pub array-fault-spec : {M : Type 1} → statement M
+array-fault-spec = tie.close (tie.spec (λ c κs. search needs) returns returns-2)
