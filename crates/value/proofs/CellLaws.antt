@@ -11,7 +11,7 @@ use Rattle.le.specs.Splice.{splice, zeros, part, allZero}
 use Rattle.le.proofs.SpliceLaws.{splice-then, length-part, part-add, part-left, part-behind, zeros-are, zeros-allZero}
 use Rattle.le.proofs.LeLaws.{Bytes, length-leBytes, leAt-lt, leBytes-leAt, number-first, number-after}
 use Rattle.value.specs.declared.cell.Cell.{Cell}
-use Rattle.value.specs.Values.{cellAt, cellBytes}
+use Rattle.value.specs.Cells.{cellAt, cellBytes}
 
 -- a cell of four numbers
 abbrev pub of : ℕ → ℕ → ℕ → ℕ → Cell

@@ -16,8 +16,9 @@ use Rattle.value.proofs.Floats.{above, not-above, pattern-of-nan}
 use Rattle.value.specs.declared.scalar.Scalar.{Scalar}
 use Rattle.value.specs.declared.scalar.Scalar.the-variants.{Unit as Nothing, Bool as Boolean, Signed, Unsigned, Float}
 use Rattle.value.specs.declared.Value.the-variants.{Plain}
-use Rattle.value.specs.Scalars.{kindOf, bitsOf, Held, canonical}
-use Rattle.value.specs.Values.{boolean, cellAt, decoded, cellOf, scalarBytes}
+use Rattle.value.specs.Scalars.{kindOf, bitsOf, canonical, scalarCell, scalarBytes, Held}
+use Rattle.value.specs.Cells.{cellAt}
+use Rattle.value.specs.Values.{boolean, decoded}
 use Rattle.value.proofs.CellLaws.{cell-back}
 use Rattle.value.proofs.DecodeLaws.{of-unit, of-boolean, of-signed, of-unsigned, of-float}
 
@@ -43,17 +44,17 @@ both true = refl
 both false = refl
 
 -- a scalar that was stored is decoded as it was: a NaN as the NaN
-pub scalar-back : (f : ℕ) (s : Scalar) → Held s → decoded (cellOf f (Plain s)) ≡ Plain s
-scalar-back f Nothing h = sym (of-unit (cellOf f (Plain Nothing)) refl)
-scalar-back f (Boolean b) h = sym (of-boolean (cellOf f (Plain (Boolean b))) refl) ∙ both b
-scalar-back f (Signed z) h = sym (of-signed (cellOf f (Plain (Signed z))) refl z (sym (toZ-ofZ h)))
-scalar-back f (Unsigned n) h = sym (of-unsigned (cellOf f (Plain (Unsigned n))) refl)
-scalar-back f (Float x) h = sym (of-float (cellOf f (Plain (Float x))) refl x (sym (ofBits-toBits binary64 x h)))
+pub scalar-back : (f : ℕ) (s : Scalar) → Held s → decoded (scalarCell f s) ≡ Plain s
+scalar-back f Nothing h = sym (of-unit (scalarCell f Nothing) refl)
+scalar-back f (Boolean b) h = sym (of-boolean (scalarCell f (Boolean b)) refl) ∙ both b
+scalar-back f (Signed z) h = sym (of-signed (scalarCell f (Signed z)) refl z (sym (toZ-ofZ h)))
+scalar-back f (Unsigned n) h = sym (of-unsigned (scalarCell f (Unsigned n)) refl)
+scalar-back f (Float x) h = sym (of-float (scalarCell f (Float x)) refl x (sym (ofBits-toBits binary64 x h)))
 
 -- the same through its 32 bytes, with anything behind them
 pub scalar-reads : (f : ℕ) (s : Scalar) (ys : List ℕ) → f < 256 ^ 4 → Held s → decoded (cellAt (scalarBytes f s ++ ys) 0) ≡ Plain s
 scalar-reads f s ys l h =
-    ap decoded (cell-back (cellOf f (Plain s)) ys (record { kind = omega (arith, kind-lt s); flags = l; first = bits-lt s h; second = lit< tt })) ∙ scalar-back f s h
+    ap decoded (cell-back (scalarCell f s) ys (record { kind = omega (arith, kind-lt s); flags = l; first = bits-lt s h; second = lit< tt })) ∙ scalar-back f s h
 
 -- "A float that is not a number is stored as 0x7FF8000000000000; all others keep their bits."
 pub float-canonical : (n : ℕ) → n < 2 ^ 64 → toBits binary64 (ofBits binary64 n) ≡ canonical n
