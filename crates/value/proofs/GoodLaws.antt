@@ -77,8 +77,8 @@ payload-good m p h f =
     let e : b ≡ cellBytes d ++ contentOf m v = g .same in
     let n : length b ≡ 32 + contentLen v = g .long in
     let t = moved m c b 0 32 v r (g .fine) (ap (λ (s : List ℕ). cellAt s 0) e ∙ cell-back d (contentOf m v) (kept-fits (read-fits m p h) r))
-        (inside-is 32 (contentLen v) (length b) (lit< tt) (omega arith))
-        (ap (part 32 (contentLen v)) e ∙ part-behind 32 (contentLen v) (cellBytes d) (contentOf m v) (length-cell d) (content-long m v (g .fine))) in
+    (inside-is 32 (contentLen v) (length b) (lit< tt) (omega arith))
+    (ap (part 32 (contentLen v)) e ∙ part-behind 32 (contentLen v) (cellBytes d) (contentOf m v) (length-cell d) (content-long m v (g .fine))) in
     is-good b (record { long = omega arith; fine = t .fine; same = t .same ∙ sym e })
 
 -- ---- how the code finds out

@@ -1,6 +1,6 @@
 -- What a module is handed is the value that was stored: decoded where it lies, and written again, it gives the same payload.
 -- Assumes nothing.
-use mathlib.Core.Path.{_≡_, refl, sym, ap, ap₂, _∙_}
+use mathlib.Core.Path.{_≡_, sym, ap, ap₂, _∙_}
 use mathlib.Core.Bool.{true, false}
 use mathlib.Core.List.{List}
 use Prim.Native.Nat.{ℕ, _+_, _≤_, _<_, _^_}
@@ -99,8 +99,8 @@ handed m b a h g z l w =
     let o : length (shownValue a b) ≡ length b = length-shownAt a 0 b in
     let t : length M ≡ length m = length-splice m a (shownValue a b) in
     let x : part (a + 32) (contentLen v) M ≡ contentOf b v =
-        part-within m a (shownValue a b) 32 (contentLen v) (omega arith) (omega arith) ∙ content-shown a (contentLen v) b ∙ sym (content-there b c v r e) in
+    part-within m a (shownValue a b) 32 (contentLen v) (omega arith) (omega arith) ∙ content-shown a (contentLen v) b ∙ sym (content-there b c v r e) in
     let s : Moved b (c .flags) v M a =
-        moved b c M a (a + 32) v r (k .fine) (cell-there m a (shownValue a b) (omega arith) (omega arith) ∙ shown-cell b a (k .long) w v r e)
-        (inside-is (a + 32) (contentLen v) (length M) (omega arith) (omega arith)) x in
+    moved b c M a (a + 32) v r (k .fine) (cell-there m a (shownValue a b) (omega arith) (omega arith) ∙ shown-cell b a (k .long) w v r e)
+    (inside-is (a + 32) (contentLen v) (length M) (omega arith) (omega arith)) x in
     seen M b a (inside-is a 32 (length M) z (omega arith)) (s .fine) (s .same ∙ k .same)

@@ -6,7 +6,6 @@ use Prim.Native.Nat.{ℕ, _<_, _%_, _^_}
 use mathlib.Core.List.{List, _++_}
 use native.Mathlib.Omega.{arith}
 use lib.Dec.{T, ltb, lit<}
-use lib.Ieee as Ieee
 use lib.Ieee.{binary64, ofBits, toBits}
 use lib.Ieee.Bits.{ofBits-toBits, toBits-ofBits, toBits-lt, nanBits-is}
 use lib.IntN.{pos, negsuc}

@@ -19,9 +19,10 @@ copy-part-requires c κs =
     let s = c .before in
     let v = s .before .before .before .before .before .before in
     let r = v .before in
-    let a = r .before .before .before in
-    (there-end (now (a .args .m)) (a .args .p) (a .pre .0) _ _ (r .read-cell .ensures) (v .decode .ensures) _ (s .content-span .ensures),
-    omega (arith, a .pre .1, there-long (now (a .args .m)) (a .args .p) (a .pre .0) _ _ (r .read-cell .ensures) (v .decode .ensures) _ (s .content-span .ensures)))
+    let a = r .before .before .before in (
+      there-end (now (a .args .m)) (a .args .p) (a .pre .0) _ _ (r .read-cell .ensures) (v .decode .ensures) _ (s .content-span .ensures),
+      omega (arith, a .pre .1, there-long (now (a .args .m)) (a .args .p) (a .pre .0) _ _ (r .read-cell .ensures) (v .decode .ensures) _ (s .content-span .ensures)),
+    )
 
 returns : tie.Need-returns
 returns c =
