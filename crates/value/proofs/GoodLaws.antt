@@ -71,14 +71,15 @@ payload-good m p h f =
     let b = payload m p in
     let c = cellAt m p in
     let v = decoded c in
+    let n = contentLen v in
     let d = cellOf (c .flags) 32 v in
     let g = ready m p f in
     let r = reads c (read-fits m p h) in
     let e : b ≡ cellBytes d ++ contentOf m v = g .same in
-    let n : length b ≡ 32 + contentLen v = g .long in
-    let t = moved m c b 0 32 v r (g .fine) (ap (λ (s : List ℕ). cellAt s 0) e ∙ cell-back d (contentOf m v) (kept-fits (read-fits m p h) r))
-    (inside-is 32 (contentLen v) (length b) (lit< tt) (omega arith))
-    (ap (part 32 (contentLen v)) e ∙ part-behind 32 (contentLen v) (cellBytes d) (contentOf m v) (length-cell d) (content-long m v (g .fine))) in
+    let size : length b ≡ 32 + n = g .long in
+    let k : cellAt b 0 ≡ d = ap (λ (s : List ℕ). cellAt s 0) e ∙ cell-back d (contentOf m v) (kept-fits (read-fits m p h) r) in
+    let x : part 32 n b ≡ contentOf m v = ap (part 32 n) e ∙ part-behind 32 n (cellBytes d) (contentOf m v) (length-cell d) (content-long m v (g .fine)) in
+    let t = moved m c b 0 32 v r (g .fine) k (inside-is 32 n (length b) (lit< tt) (omega arith)) x in
     is-good b (record { long = omega arith; fine = t .fine; same = t .same ∙ sym e })
 
 -- ---- how the code finds out
@@ -176,6 +177,7 @@ module _ (b : List ℕ) (h : Bytes b) (l : 32 ≤ length b) (c : Cell) (v : Valu
         let e : c₀ ≡ cellOf (c₀ .flags) 32 v₀ = cell-is c₀ (cellOf (c₀ .flags) 32 v₀) (sym is-same ∙ q) in
         let head : cellBytes (cellOf (c₀ .flags) 32 v₀) ≡ part 0 32 b = ap cellBytes (sym e) ∙ cell-exact b h l (sym ez ∙ t) in
         let tail : contentOf b v₀ ≡ part 32 (contentLen v₀) b = content-there b c₀ v₀ (reads c₀ (read-fits b 0 h)) e in
-        let all : formOf b c₀ ≡ b = ap₂ (λ (x y : List ℕ). x ++ y) head tail ∙ part-add 0 32 (contentLen v₀) 32 b refl ∙ part-whole (32 + contentLen v₀) b (omega (arith, f .1)) in
+        let whole : part 0 (32 + contentLen v₀) b ≡ b = part-whole (32 + contentLen v₀) b (omega (arith, f .1)) in
+        let all : formOf b c₀ ≡ b = ap₂ (λ (x y : List ℕ). x ++ y) head tail ∙ part-add 0 32 (contentLen v₀) 32 b refl ∙ whole in
         is-good b (record { long = l; fine = f .0; same = all }))
         (λ e. ez ∙ good-zeros b h (good-is b e))

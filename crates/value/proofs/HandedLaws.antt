@@ -1,18 +1,17 @@
 -- What a module is handed is the value that was stored: decoded where it lies, and written again, it gives the same payload.
 -- Assumes nothing.
-use mathlib.Core.Path.{_≡_, sym, ap, ap₂, _∙_}
+use mathlib.Core.Path.{_≡_, refl, sym, ap, ap₂, _∙_}
 use mathlib.Core.Bool.{true, false}
 use mathlib.Core.List.{List}
 use Prim.Native.Nat.{ℕ, _+_, _≤_, _<_, _^_}
 use native.Mathlib.Omega.{arith}
-use native.Mathlib.Nat.{add-zero}
 use borrow.Author.Tests.{ne-eqb}
 use lib.ListN.{length, take, drop}
 use lib.Seq.{drop-drop}
 use Rattle.le.specs.Le.{leAt, leBytes}
 use Rattle.le.specs.Splice.{splice, part}
 use Rattle.le.proofs.SpliceLaws.{length-splice, part-within}
-use Rattle.le.proofs.LeLaws.{Bytes, length-leBytes, leAt-splice-in, leAt-splice-before, leAt-splice-after, leAt-put}
+use Rattle.le.proofs.LeLaws.{Bytes, length-leBytes, leAt-splice-before, leAt-splice-after, leAt-put}
 use Rattle.text.specs.Span.{inside}
 use Rattle.value.specs.declared.cell.Cell.{Cell}
 use Rattle.value.specs.declared.Value.{Value}
@@ -22,24 +21,16 @@ use Rattle.value.specs.Scalars.{kindOf}
 use Rattle.value.specs.Values.{decoded, contentOf, contentLen, faultOf, valueFault}
 use Rattle.value.specs.Forms.{cellOf, formOf, payload, goodStored}
 use Rattle.value.specs.Shown.{pointed, shownValue}
-use Rattle.value.proofs.CellLaws.{of, read-fits}
+use Rattle.value.proofs.CellLaws.{of, read-fits, cell-there}
 use Rattle.value.proofs.DecodeLaws.{Read, plain, text, array, wrong, reads}
 use Rattle.value.proofs.ScalarLaws.{kind-lt}
 use Rattle.value.proofs.FaultLaws.{inside-is}
 use Rattle.value.proofs.FormLaws.{form-long}
-use Rattle.value.proofs.MovedLaws.{Moved, moved}
+use Rattle.value.proofs.MovedLaws.{moved}
 use Rattle.value.proofs.GoodLaws.{good-is, good-kept, content-there}
 use Rattle.value.proofs.ShownLaws.{length-shownAt, shown-after, shown-plain, shown-moved}
 
 -- ---- the 32 bytes where they stand
-
--- inside what was written
-cell-there : (s : List ℕ) (at : ℕ) (b : List ℕ) → 32 ≤ length b → at + length b ≤ length s → cellAt (splice s at b) at ≡ cellAt b 0
-unfolding cellAt
-cell-there s at b l h =
-    let e₀ : leAt 4 (splice s at b) at ≡ leAt 4 b 0 = ap (leAt 4 (splice s at b)) (sym (add-zero at)) ∙ leAt-splice-in 4 s at b 0 (omega arith) h in
-    ap₂ (λ (i j : ℕ). of i j (leAt 8 (splice s at b) (at + 8)) (leAt 8 (splice s at b) (at + 16))) e₀ (leAt-splice-in 4 s at b 4 (omega arith) h)
-    ∙ ap₂ (of (leAt 4 b 0) (leAt 4 b 4)) (leAt-splice-in 8 s at b 8 (omega arith) h) (leAt-splice-in 8 s at b 16 (omega arith) h)
 
 -- with another pointer
 cell-moved : (b : List ℕ) (q : ℕ) → 32 ≤ length b → q < 256 ^ 8
@@ -59,14 +50,15 @@ kind-of b c e = ap (λ (x : Cell). x .kind) e
 
 -- shown at a: the numbers as stored, the pointer to a + 32
 module _ (b : List ℕ) (a : ℕ) (l : 32 ≤ length b) (w : a + 32 < 2 ^ 64) where
+  shown-pointer : (k : ℕ) → cellAt b 0 .kind ≡ k → pointed k ≡ true → cellAt (shownValue a b) 0 ≡ of k (cellAt b 0 .flags) (a + 32) (cellAt b 0 .second)
+  shown-pointer k e p =
+      ap (λ (x : List ℕ). cellAt x 0) (shown-moved a 0 b (ap pointed (kind-of b _ refl ∙ e) ∙ p)) ∙ cell-moved b (a + 32) l w
+      ∙ ap (λ (i : ℕ). of i (cellAt b 0 .flags) (a + 32) (cellAt b 0 .second)) e
+
   shown-cell : (v : Value) → Read (cellAt b 0) v → cellAt b 0 ≡ cellOf (cellAt b 0 .flags) 32 v → cellAt (shownValue a b) 0 ≡ cellOf (cellAt b 0 .flags) (a + 32) v
   shown-cell v (plain s q) e = ap (λ (x : List ℕ). cellAt x 0) (shown-plain a 0 b (ap pointed (kind-of b _ e) ∙ not-pointed (kindOf s) (kind-lt s))) ∙ e
-  shown-cell v text e =
-      ap (λ (x : List ℕ). cellAt x 0) (shown-moved a 0 b (ap pointed (kind-of b _ e))) ∙ cell-moved b (a + 32) l w
-      ∙ ap (λ (k : ℕ). of k (cellAt b 0 .flags) (a + 32) (cellAt b 0 .second)) (ap (λ (c : Cell). c .kind) e)
-  shown-cell v array e =
-      ap (λ (x : List ℕ). cellAt x 0) (shown-moved a 0 b (ap pointed (kind-of b _ e))) ∙ cell-moved b (a + 32) l w
-      ∙ ap (λ (k : ℕ). of k (cellAt b 0 .flags) (a + 32) (cellAt b 0 .second)) (ap (λ (c : Cell). c .kind) e)
+  shown-cell v text e = shown-pointer 5 (ap (λ (c : Cell). c .kind) e) refl
+  shown-cell v array e = shown-pointer 9 (ap (λ (c : Cell). c .kind) e) refl
   shown-cell v wrong e = ap (λ (x : List ℕ). cellAt x 0) (shown-plain a 0 b (ap pointed (kind-of b _ e))) ∙ e
 
 -- ---- handed
@@ -89,18 +81,18 @@ pub handed : (m b : List ℕ) (a : ℕ) → Bytes b → goodStored b ≡ true �
     → Handed (splice m a (shownValue a b)) b a
 unfolding formOf
 handed m b a h g z l w =
-    let M = splice m a (shownValue a b) in
+    let B = shownValue a b in
+    let M = splice m a B in
     let c = cellAt b 0 in
     let v = decoded c in
+    let n = contentLen v in
     let k = good-is b g in
     let r = reads c (read-fits b 0 h) in
     let e : c ≡ cellOf (c .flags) 32 v = good-kept b h k in
-    let n : length b ≡ 32 + contentLen v = sym (ap length (k .same)) ∙ form-long b c (k .fine) in
-    let o : length (shownValue a b) ≡ length b = length-shownAt a 0 b in
-    let t : length M ≡ length m = length-splice m a (shownValue a b) in
-    let x : part (a + 32) (contentLen v) M ≡ contentOf b v =
-    part-within m a (shownValue a b) 32 (contentLen v) (omega arith) (omega arith) ∙ content-shown a (contentLen v) b ∙ sym (content-there b c v r e) in
-    let s : Moved b (c .flags) v M a =
-    moved b c M a (a + 32) v r (k .fine) (cell-there m a (shownValue a b) (omega arith) (omega arith) ∙ shown-cell b a (k .long) w v r e)
-    (inside-is (a + 32) (contentLen v) (length M) (omega arith) (omega arith)) x in
+    let size : length b ≡ 32 + n = sym (ap length (k .same)) ∙ form-long b c (k .fine) in
+    let there : length M ≡ length m = length-splice m a B in
+    let long : length B ≡ length b = length-shownAt a 0 b in
+    let x : part (a + 32) n M ≡ contentOf b v = part-within m a B 32 n (omega arith) (omega arith) ∙ content-shown a n b ∙ sym (content-there b c v r e) in
+    let d : cellAt M a ≡ cellOf (c .flags) (a + 32) v = cell-there m a B (omega arith) (omega arith) ∙ shown-cell b a (k .long) w v r e in
+    let s = moved b c M a (a + 32) v r (k .fine) d (inside-is (a + 32) n (length M) (omega arith) (omega arith)) x in
     seen M b a (inside-is a 32 (length M) z (omega arith)) (s .fine) (s .same ∙ k .same)

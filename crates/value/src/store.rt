@@ -37,12 +37,12 @@ pub(crate) fn stored_cell(flags: u32, v: Value) -> Cell
 }
 
 // The payload of the value at p, for a caller that has had `check_value` find no fault, and has room for as many bytes as it said.
-pub fn put_value(m: &[u8], p: usize, out: &mut [u8], at: usize)
+pub fn put_value(m: &[u8], p: u64, out: &mut [u8], at: usize)
     requires { ⌜ valueFault (now m) p ≡ Fine ⌝ }
     requires { ⌜ at + length (payload (now m) p) ≤ length (now out) ⌝ }
     ensures { λ _. ⌜ now (out .exit) ≡ splice (now (out .entry)) at (payload (now (m .entry)) p) ⌝ }
 {
-    let c = crate::cell::read_cell(m, p);
+    let c = crate::cell::read_cell(m, p as usize);
     let v = crate::decode::decode(c);
     let d = stored_cell(c.flags, v);
     crate::cell::put_cell(out, at, d);
@@ -67,5 +67,5 @@ pub fn store_value(m: &[u8], p: u64, out: &mut [u8], at: usize)
     if ((out.len() - at) as u64) < n {
         return;
     }
-    put_value(m, p as usize, out, at);
+    put_value(m, p, out, at);
 }

@@ -33,7 +33,8 @@ returns c =
     let d = st .before in
     let r = d .before in
     let s = r .before .before .before in
-    value-written (now (s .args .m)) (s .args .p) (s .pre .0) _ _ (r .read-cell .ensures) (d .decode .ensures) _ _ _ _ _ _ (st .stored-cell .ensures) (p .put-cell .ensures) (co₂ .content-span .ensures) (co .copy-part .ensures)
+    value-written (now (s .args .m)) (s .args .p) (s .pre .0) _ _ (r .read-cell .ensures) (d .decode .ensures) _ _ _ _ _ _
+    (st .stored-cell .ensures) (p .put-cell .ensures) (co₂ .content-span .ensures) (co .copy-part .ensures)
 
 pub put-value-spec : {M : Type 1} → statement M
 put-value-spec =
