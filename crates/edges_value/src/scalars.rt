@@ -62,7 +62,7 @@ fn back(label: &[u8], s: Scalar) {
     say::text(b"\n");
 }
 
-pub fn there_and_back() {
+fn integers() {
     back(b"unit", Scalar::Unit);
     back(b"false", Scalar::Bool(false));
     back(b"true", Scalar::Bool(true));
@@ -74,9 +74,17 @@ pub fn there_and_back() {
         b"unsigned greatest",
         Scalar::Unsigned(0xFFFF_FFFF_FFFF_FFFF),
     );
+}
+
+fn floats() {
     back(b"float 1.5", Scalar::Float(1.5));
     back(b"float -0", Scalar::Float(-0.0));
     back(b"float infinity", Scalar::Float(1.0 / 0.0));
     back(b"float -infinity", Scalar::Float(-1.0 / 0.0));
     back(b"float 0 / 0", Scalar::Float(0.0 / 0.0));
+}
+
+pub fn there_and_back() {
+    integers();
+    floats();
 }

@@ -3,11 +3,14 @@ use crate::say;
 use crate::types::asks;
 use crate::types::memory;
 
-pub fn strings() {
+fn strings() {
     asks(b"string of 3 (P3)", 5, 67, 3);
     asks(b"string of 6", 5, 64, 6);
     asks(b"string of 1,948, to memory's end", 5, 100, 1948);
     asks(b"empty string", 5, 64, 0);
+}
+
+fn string_edges() {
     asks(b"string (0, 0)", 5, 0, 0);
     asks(b"string (0, 1)", 5, 0, 1);
     asks(b"string (2047, 1)", 5, 2047, 1);
@@ -15,6 +18,9 @@ pub fn strings() {
     asks(b"string (2048, 0)", 5, 2048, 0);
     asks(b"string (2048, 1)", 5, 2048, 1);
     asks(b"string (2049, 0)", 5, 2049, 0);
+}
+
+fn string_wraps() {
     asks(
         b"string (2^64 - 1, 2), a sum that wraps",
         5,
@@ -35,10 +41,13 @@ pub fn strings() {
     );
 }
 
-pub fn arrays() {
+fn arrays() {
     asks(b"byte array of 2, not UTF-8", 9, 80, 2);
     asks(b"byte array of 2,047, all of memory but byte 0", 9, 1, 2047);
     asks(b"empty byte array", 9, 64, 0);
+}
+
+fn array_edges() {
     asks(b"byte array (0, 0)", 9, 0, 0);
     asks(b"byte array (0, 1)", 9, 0, 1);
     asks(b"byte array (2048, 0)", 9, 2048, 0);
@@ -53,7 +62,7 @@ pub fn arrays() {
     );
 }
 
-pub fn characters() {
+fn characters() {
     asks(b"string cut in a character", 5, 64, 2);
     asks(b"string begun in a character", 5, 66, 1);
     asks(b"string C0 80", 5, 80, 2);
@@ -61,6 +70,9 @@ pub fn characters() {
     asks(b"string F4 90 80 80", 5, 85, 4);
     asks(b"string F4 8F BF BF", 5, 89, 4);
     asks(b"string of control bytes", 5, 20, 4);
+}
+
+fn orders() {
     asks(b"type 7 with a span outside: the type first", 7, 4096, 1);
     asks(b"string outside, not UTF-8: the span first", 5, 80, 4096);
 }
@@ -106,4 +118,14 @@ pub fn rooms() {
         b"35 bytes at 2^64 - 1 of 40, bytes 8 to 15",
         0xFFFF_FFFF_FFFF_FFFF,
     );
+}
+
+pub fn contents() {
+    strings();
+    string_edges();
+    string_wraps();
+    arrays();
+    array_edges();
+    characters();
+    orders();
 }

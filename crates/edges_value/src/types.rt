@@ -60,15 +60,21 @@ pub fn asks(label: &[u8], kind: u32, first: u64, second: u64) {
     }
 }
 
-pub fn numbers() {
+fn units_and_booleans() {
     asks(b"unit", 0, 0, 0);
     asks(b"unit, its union in use", 0, 77, 77);
     asks(b"boolean 0", 1, 0, 0);
     asks(b"boolean 1", 1, 1, 0);
     asks(b"boolean 1, other bytes set", 1, 0xFFFF_FFFF_FFFF_FF01, 77);
+}
+
+fn other_booleans() {
     asks(b"boolean 2", 1, 2, 0);
     asks(b"boolean 255", 1, 255, 0);
     asks(b"boolean 0, next byte 1", 1, 256, 0);
+}
+
+fn integers() {
     asks(b"signed -1", 2, 0xFFFF_FFFF_FFFF_FFFF, 0);
     asks(b"signed least", 2, 0x8000_0000_0000_0000, 77);
     asks(b"signed greatest", 2, 0x7FFF_FFFF_FFFF_FFFF, 0);
@@ -76,17 +82,23 @@ pub fn numbers() {
     asks(b"unsigned greatest", 3, 0xFFFF_FFFF_FFFF_FFFF, 0);
 }
 
-pub fn floats() {
+fn floats() {
     asks(b"float 1.5", 4, 0x3FF8_0000_0000_0000, 77);
     asks(b"float 0", 4, 0, 0);
     asks(b"float -0", 4, 0x8000_0000_0000_0000, 0);
     asks(b"float least above 0", 4, 1, 0);
     asks(b"float greatest", 4, 0x7FEF_FFFF_FFFF_FFFF, 0);
+}
+
+fn infinities_and_nans() {
     asks(b"float infinity (P7)", 4, 0x7FF0_0000_0000_0000, 0);
     asks(b"float -infinity", 4, 0xFFF0_0000_0000_0000, 0);
     asks(b"float NaN, canonical", 4, 0x7FF8_0000_0000_0000, 0);
     asks(b"float NaN, negative", 4, 0xFFF8_0000_0000_0000, 0);
     asks(b"float NaN, signalling 1", 4, 0x7FF0_0000_0000_0001, 0);
+}
+
+fn other_nans() {
     asks(
         b"float NaN, negative signalling 1 (P7)",
         4,
@@ -110,20 +122,41 @@ pub fn floats() {
     );
 }
 
-pub fn each_type() {
+fn types_to_4() {
     asks(b"type 0", 0, 64, 1);
     asks(b"type 1", 1, 64, 1);
     asks(b"type 2", 2, 64, 1);
     asks(b"type 3", 3, 64, 1);
     asks(b"type 4", 4, 64, 1);
+}
+
+fn types_5_to_9() {
     asks(b"type 5", 5, 64, 1);
     asks(b"type 6", 6, 64, 1);
     asks(b"type 7", 7, 64, 1);
     asks(b"type 8", 8, 64, 1);
     asks(b"type 9", 9, 64, 1);
+}
+
+fn types_from_10() {
     asks(b"type 10", 10, 64, 1);
     asks(b"type 11", 11, 64, 1);
     asks(b"type 12", 12, 64, 1);
     asks(b"type 256", 256, 64, 1);
     asks(b"type 4294967295", 0xFFFF_FFFF, 64, 1);
+}
+
+pub fn scalars() {
+    units_and_booleans();
+    other_booleans();
+    integers();
+    floats();
+    infinities_and_nans();
+    other_nans();
+}
+
+pub fn each_type() {
+    types_to_4();
+    types_5_to_9();
+    types_from_10();
 }
