@@ -1,0 +1,2 @@
+-- The laws that the proofs cite. Assumes nothing.
+pub mod FieldLaws
