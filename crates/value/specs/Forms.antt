@@ -14,7 +14,7 @@ use Rattle.value.specs.Cells.{cellAt, cellBytes}
 use Rattle.value.specs.Scalars.{scalarCell}
 use Rattle.value.specs.Values.{decoded, contentOf, contentLen, isFine, faultOf, valueFault}
 
--- a value's numbers, unused ones 0, where the bytes of a string or byte array begin at `at`
+-- a value's numbers, unused ones 0, where the bytes of a string or byte array begin at `at` (what is `Wrong` has a fault and is never stored)
 abbrev pub cellOf : ℕ → ℕ → Value → Cell
 cellOf flags at (Plain s) = scalarCell flags s
 cellOf flags at (Text s) = record { kind = 5; flags = flags; first = at; second = s .len }

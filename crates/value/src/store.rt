@@ -28,7 +28,7 @@ pub(crate) fn stored_cell(flags: u32, v: Value) -> Cell
             second: s.len,
         },
         Value::Wrong => Cell {
-            kind: 0,
+            kind: 0, // never stored: it has a fault
             flags: flags,
             first: 0,
             second: 0,
