@@ -1,0 +1,16 @@
+-- `weave::Code::then` meets its contract. Assumes nothing.
+use Rattle.weave.specs.Codes.{first}
+use borrow.Author.Needs.{needs}
+use Rattle.weave.proofs.Code.then.Statement.{statement}
+use Rattle.weave.proofs.Code.then.Tie as tie
+
+returns : tie.Need-returns
+unfolding first
+returns c = cc
+
+returns-2 : tie.Need-returns-2
+unfolding first
+returns-2 c = cc
+
+pub then-spec : {M : Type 1} → statement M
+then-spec = tie.close (tie.spec (λ c κs. search needs) returns returns-2)

@@ -1,0 +1,4 @@
+pub mod Codes
+pub mod Sums
+pub mod Table
+pub mod States
