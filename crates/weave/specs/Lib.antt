@@ -2,3 +2,5 @@ pub mod Codes
 pub mod Sums
 pub mod Table
 pub mod States
+pub mod Args
+pub mod Checks
