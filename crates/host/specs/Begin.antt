@@ -1,0 +1,44 @@
+-- begin: "128 bytes of FilamentWeaveArgs (any other length -5). Used are res_max at 24, virt_time at 48, trace at 56."
+-- Assumes nothing.
+use mathlib.Core.Bool.{not, cond}
+use mathlib.Core.List.{List, [], _∷_}
+use Prim.Native.Nat.{ℕ}
+use lib.Dec.{eqb}
+use lib.ListN.{length}
+use Rattle.le.specs.Le.{leAt}
+use Rattle.le.specs.Splice.{part, splice, zeros}
+use Rattle.weave.specs.declared.Code.{Code}
+use Rattle.weave.specs.declared.Code.the-variants.{Denied, NotNow, Bad}
+use Rattle.weave.specs.declared.Weave.{Weave}
+use Rattle.weave.specs.Codes.{isFine, need, firstOf}
+use Rattle.weave.specs.States.{begunWeave}
+use Rattle.host.specs.declared.Host.{Host}
+use Rattle.host.specs.declared.Answer.{Answer}
+use Rattle.host.specs.Hosts.{Lent, withWeave, lentCheck}
+
+unfoldable pub beginCheck : Lent → Host → List ℕ → Code
+beginCheck l h args =
+    firstOf
+    (lentCheck l h  -- 1
+    ∷ need (not (h .weave .running)) NotNow  -- 2
+    ∷ need (not (h .faulted)) Denied  -- 3
+    ∷ need (eqb (length args) 128) Bad  -- 4
+    ∷ [])
+
+-- a number of the arguments, 0 where they are not 128 bytes
+unfoldable pub argAt : List ℕ → ℕ → ℕ
+argAt args off = cond (eqb (length args) 128) (leAt 8 args off) 0
+
+unfoldable pub traceOf : List ℕ → List ℕ
+traceOf args = splice (zeros 32) 0 (part 56 32 args)
+
+unfoldable pub begun : List ℕ → Weave
+begun args = begunWeave (argAt args 24) (record { 0 = argAt args 48 }) (traceOf args)
+
+unfoldable pub beginAnswer : Lent → Host → List ℕ → Answer
+beginAnswer l h args =
+    record { code = beginCheck l h args; value = 0; host = cond (isFine (beginCheck l h args)) (withWeave h (begun args)) h }
+
+-- "Staging becomes all 0"
+unfoldable pub beginStaging : Lent → Host → List ℕ → List ℕ
+beginStaging l h args = cond (isFine (beginCheck l h args)) (zeros (length (l .staging))) (l .staging)

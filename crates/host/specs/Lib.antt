@@ -1,0 +1,3 @@
+pub mod Hosts
+pub mod Cursors
+pub mod Begin
