@@ -1,3 +1,4 @@
 pub mod Hosts
 pub mod Cursors
 pub mod Begin
+pub mod Stage

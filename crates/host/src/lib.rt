@@ -1,7 +1,9 @@
 // The host: its state by value, and every operation, each a straight line of checks in document 01's order.
 pub mod begin;
 pub mod cursors;
+pub mod stage;
 pub mod state;
+pub mod write;
 
 use record::EventId;
 use weave::Code;
