@@ -2,3 +2,5 @@ pub mod Hosts
 pub mod Cursors
 pub mod Begin
 pub mod Stage
+pub mod Ending
+pub mod Mount

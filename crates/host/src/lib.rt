@@ -1,6 +1,8 @@
 // The host: its state by value, and every operation, each a straight line of checks in document 01's order.
 pub mod begin;
 pub mod cursors;
+pub mod ending;
+pub mod mount;
 pub mod stage;
 pub mod state;
 pub mod write;
@@ -23,5 +25,25 @@ pub struct Host {
 pub struct Answer {
     pub code: Code,
     pub value: u64,
+    pub host: Host,
+}
+
+// What a module's return leads to.
+pub enum Fate {
+    Refused(Code),
+    Discarded(Code),
+    Running,
+    Committed { events: u64, bytes: usize },
+}
+
+pub struct Returned {
+    pub fate: Fate,
+    pub host: Host,
+}
+
+// What mount answers: Fine, or the code it was refused with, -3 with the offset of the first record not sound.
+pub struct Mounted {
+    pub code: Code,
+    pub at: usize,
     pub host: Host,
 }
