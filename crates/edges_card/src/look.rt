@@ -1,82 +1,61 @@
-// Look-up by number: in the card below the next number, in the staged bytes from it on.
+// Look-up by number, of a whole card and of a damaged one.
 use crate::build;
+use crate::chains;
+use crate::input;
 use crate::say::number;
 use crate::say::word;
+use card::walk::look_up;
 use record::EventId;
 
+// look used staged next id: of so many bytes of the card and of the staging buffer, and what is said to be the next number on the card.
+pub(crate) fn look(l: &[u8]) {
+    let mut card = [0u8; 1024];
+    let mut staging = [0u8; 1024];
+    build::six(&mut card);
+    build::two(&mut staging, 0);
+    let used = le::front(&card, input::size(l, 1));
+    let staged = le::front(&staging, input::size(l, 2));
+    let next = EventId(input::number(l, 3));
+    found(look_up(used, staged, next, EventId(input::number(l, 4))));
+}
+
 // The record's length and its own number, or that there is none.
-fn record(r: &[u8]) {
+fn found(r: &[u8]) {
     if r.len() < 128 {
-        word(b" none");
+        word(b": none");
         return;
     }
+    word(b":");
     number(r.len() as u64);
     word(b" bytes, number");
     number(le::read_u64(r, 8));
 }
 
-fn ask(used: usize, staged: usize, next: u64, id: u64) {
-    word(b"card");
-    number(used as u64);
-    word(b" staged");
-    number(staged as u64);
-    word(b" next");
-    number(next);
-    word(b", number");
-    number(id);
-    word(b":");
+// The length of the record that look-up gives, 0 where it gives none.
+fn length(s: &[u8], id: u64) {
+    let r = look_up(s, le::front(s, 0), EventId(7), EventId(id));
+    number(r.len() as u64);
 }
 
-// `used` bytes of the card and `staged` bytes of the staging buffer, and what is said to be the next number on the card.
-fn look(used: usize, staged: usize, next: u64, id: u64) {
+fn put(s: &mut [u8], at: usize, b: u64) {
+    if at < s.len() {
+        s[at] = (b % 256) as u8;
+    }
+}
+
+// set at b: the byte at `at` of the card becomes b. The chain, whether it goes up to 7, and the length of each record that look-up still gives.
+pub(crate) fn set(l: &[u8]) {
     let mut card = [0u8; 1024];
-    let mut staging = [0u8; 1024];
-    build::six(&mut card);
-    build::two(&mut staging, 0);
-    ask(used, staged, next, id);
-    let c = le::front(&card, used);
-    let s = le::front(&staging, staged);
-    record(card::walk::look_up(c, s, EventId(next), EventId(id)));
-    word(b"\n");
-}
-
-fn card() {
-    look(992, 296, 7, 0);
-    look(992, 296, 7, 1);
-    look(992, 296, 7, 2);
-    look(992, 296, 7, 3);
-    look(992, 296, 7, 4);
-    look(992, 296, 7, 5);
-    look(992, 296, 7, 6);
-}
-
-fn staging() {
-    look(992, 296, 7, 7);
-    look(992, 296, 7, 8);
-    look(992, 296, 7, 9);
-    look(992, 296, 7, 9223372036854775808);
-    look(992, 296, 7, 0xFFFF_FFFF_FFFF_FFFF);
-    look(992, 0, 7, 7);
-    look(992, 152, 7, 7);
-    look(992, 152, 7, 8);
-    look(992, 295, 7, 8);
-    look(992, 151, 7, 7);
-}
-
-// A next number that is not the one after the card's last record.
-fn other_next() {
-    look(992, 296, 6, 5);
-    look(992, 296, 6, 6);
-    look(992, 296, 8, 7);
-    look(992, 296, 8, 8);
-    look(991, 296, 7, 6);
-    look(991, 296, 7, 5);
-    look(0, 296, 7, 1);
-    look(0, 0, 1, 1);
-}
-
-pub(crate) fn run() {
-    card();
-    staging();
-    other_next();
+    let n = build::six(&mut card);
+    put(&mut card, input::size(l, 1), input::number(l, 2));
+    let s = le::front(&card, n);
+    chains::chain(s, 1);
+    chains::up_to(s, 1, 7);
+    word(b":");
+    length(s, 1);
+    length(s, 2);
+    length(s, 3);
+    length(s, 4);
+    length(s, 5);
+    length(s, 6);
 }

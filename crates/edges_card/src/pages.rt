@@ -1,83 +1,58 @@
-// Pages of all capacities, in both directions, one after the other up to the list's end.
+// What cursors and reads list, page by page.
+use crate::build;
+use crate::input;
 use crate::say::number;
 use crate::say::word;
+use crate::show;
 use crate::show::Step;
-use crate::show::cursor;
-use crate::show::next;
-use crate::show::page_of;
 use card::Cursor;
+use card::Wanted;
+use card::pages::copy_page;
+use card::walk::chain_to;
+use manifest::Manifest;
+use record::EventId;
+use text::lines::field;
 
-fn way(desc: bool) {
-    if desc {
-        word(b"down");
-    } else {
-        word(b"up");
+// The cursor that tl_open makes of its arguments: filter, from, to, limit, desc. (A filter above 64 bytes it has refused.)
+fn cursor(l: &[u8]) -> Cursor {
+    let mut filter = [0u8; 64];
+    let f = field(l, 4);
+    if f.len() <= 64 {
+        le::copy_at(f, &mut filter, 0);
+    }
+    Cursor {
+        filter,
+        size: f.len(),
+        from: EventId(input::number(l, 5)),
+        to: EventId(input::number(l, 6)),
+        limit: input::number(l, 7),
+        desc: input::number(l, 8) == 1,
     }
 }
 
-// The first page of everything.
-fn first(desc: bool, cap: usize) {
-    way(desc);
-    word(b" cap");
-    number(cap as u64);
-    word(b":");
-    next(cursor(le::front(b"-", 0), 0, 9, 8, desc), cap);
+// Of the first n bytes of the card, whose records are numbered up to `next`, for a module: 1 may list one topic, 2 none, 3 all four.
+fn one(l: &[u8], c: Cursor) -> Step {
+    let mut card = [0u8; 1024];
+    build::six(&mut card);
+    let text =
+        b"modules\t3\ngrant\t1\tin\tloop/take\ngrant\t2\tout\tloop/take\ngrant\t3\tin\tloop/take\ngrant\t3\tin\ta\ngrant\t3\tin\tloop/mix\ngrant\t3\tin\tloop/take/2\n";
+    let w = Wanted::Granted(input::number(l, 3));
+    let s = le::front(&card, input::size(l, 1));
+    show::page(s, 1, input::number(l, 2), text, w, c, input::size(l, 9))
 }
 
-fn capacities(desc: bool) {
-    let mut cap: usize = 0;
-    while cap <= 1064 {
-        first(desc, cap);
-        cap += 76;
-    }
+// page n next module filter from to limit desc cap
+pub(crate) fn page(l: &[u8]) {
+    one(l, cursor(l));
 }
 
-// Just short of each record's end, and at it.
-fn edges_up() {
-    first(false, 151);
-    first(false, 303);
-    first(false, 439);
-    first(false, 440);
-    first(false, 615);
-    first(false, 616);
-    first(false, 783);
-    first(false, 784);
-    first(false, 991);
-    first(false, 992);
-}
-
-fn edges_down() {
-    first(true, 207);
-    first(true, 208);
-    first(true, 375);
-    first(true, 376);
-    first(true, 551);
-    first(true, 552);
-    first(true, 687);
-    first(true, 688);
-    first(true, 839);
-    first(true, 840);
-    first(true, 991);
-    first(true, 992);
-}
-
-fn one(c: Cursor, cap: usize, i: u64) -> Step {
-    way(c.desc);
-    word(b" pages of");
-    number(cap as u64);
-    word(b", page");
-    number(i);
-    word(b":");
-    next(c, cap)
-}
-
-// Pages of so many bytes until the list has ended, 8 at most.
-fn follow(c: Cursor, cap: usize) {
-    let mut at = c;
+// The same, page after page until the list has ended, 8 at most.
+pub(crate) fn pages(l: &[u8]) {
+    let mut at = cursor(l);
     let mut i: u64 = 0;
     while i < 8 {
         i += 1;
-        let step = one(at, cap, i);
+        let step = one(l, at);
         at = step.cursor;
         if step.ended {
             return;
@@ -85,67 +60,67 @@ fn follow(c: Cursor, cap: usize) {
     }
 }
 
-fn followed(desc: bool) {
-    let any = le::front(b"-", 0);
-    follow(cursor(any, 0, 9, 8, desc), 208);
-    follow(cursor(any, 0, 9, 8, desc), 320);
-    follow(cursor(any, 0, 9, 8, desc), 500);
-    follow(cursor(any, 0, 9, 3, desc), 320);
-    follow(cursor(any, 2, 6, 0xFFFF_FFFF_FFFF_FFFF, desc), 200);
-    follow(cursor(b"loop/take", 0, 0xFFFF_FFFF_FFFF_FFFF, 9, desc), 300);
+// read topic start cap: of the staged records.
+pub(crate) fn read(l: &[u8]) {
+    let mut staging = [0u8; 1024];
+    let n = build::two(&mut staging, 0);
+    let c = Cursor::reading(EventId(input::number(l, 2)));
+    let s = le::front(&staging, n);
+    show::page(s, 7, 9, field(l, 1), Wanted::Exactly, c, input::size(l, 3));
 }
 
-// P11: two records of 152.
-fn two(desc: bool, cap: usize) {
-    word(b"P11 ");
-    way(desc);
-    word(b" cap");
-    number(cap as u64);
-    word(b":");
-    page_of(304, 3, 3, cursor(le::front(b"-", 0), 1, 9, 9, desc), cap);
+// What a cursor lists from a number on, of two topics, in memory at `out`.
+fn laid(s: &[u8], from: u64, memory: &mut [u8], out: usize) {
+    if memory.len() < 2000 {
+        return;
+    }
+    if 1000 < out {
+        return;
+    }
+    let text = b"modules\t1\ngrant\t1\tin\ta\ngrant\t1\tin\tloop/mix\n";
+    let grants = Manifest::read(text);
+    let c = Cursor::reading(EventId(from));
+    let first = EventId(1);
+    let next = EventId(7);
+    if chain_to(s, first, next) {
+        copy_page(
+            s,
+            first,
+            next,
+            text,
+            grants,
+            Wanted::Granted(1),
+            c,
+            memory,
+            out,
+            1000,
+        );
+    }
 }
 
-fn p11(desc: bool) {
-    two(desc, 0);
-    two(desc, 151);
-    two(desc, 152);
-    two(desc, 303);
-    two(desc, 304);
-    two(desc, 305);
+// The pointer at `at` of memory, and the three bytes that it points to.
+fn points(memory: &[u8; 4096], at: usize) {
+    if at < 3000 {
+        let p = le::read_u64(memory, at);
+        word(b":");
+        number(p);
+        word(b" to ");
+        if p < 3000 {
+            word(le::cut(memory, p as usize, 3));
+        }
+    }
 }
 
-// P10: a window 5 to 5, or a limit 0.
-fn p10(desc: bool) {
-    word(b"P10 window 5 to 5 ");
-    way(desc);
-    word(b":");
-    next(cursor(le::front(b"-", 0), 5, 5, 9, desc), 1064);
-    word(b"P10 limit 0 ");
-    way(desc);
-    word(b":");
-    next(cursor(le::front(b"-", 0), 1, 9, 0, desc), 1064);
-}
-
-// The part is no chain up to the number that is said.
-fn unsound() {
-    word(b"991 of 992 bytes:");
-    page_of(991, 7, 3, cursor(le::front(b"-", 0), 1, 9, 9, false), 1064);
-    word(b"next number 6:");
-    page_of(992, 6, 3, cursor(le::front(b"-", 0), 1, 9, 9, false), 1064);
-    word(b"an empty card:");
-    page_of(0, 1, 3, cursor(le::front(b"-", 0), 1, 9, 9, true), 1064);
-}
-
-pub(crate) fn run() {
-    capacities(false);
-    capacities(true);
-    edges_up();
-    edges_down();
-    followed(false);
-    followed(true);
-    p10(false);
-    p10(true);
-    p11(false);
-    p11(true);
-    unsound();
+// string from out at: the page at the address `out`, whose string has its pointer at `at`.
+pub(crate) fn string(l: &[u8]) {
+    let mut card = [0u8; 1024];
+    let n = build::six(&mut card);
+    let mut memory = [0u8; 4096];
+    laid(
+        le::front(&card, n),
+        input::number(l, 1),
+        &mut memory,
+        input::size(l, 2),
+    );
+    points(&memory, input::size(l, 3));
 }

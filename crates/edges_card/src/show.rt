@@ -13,22 +13,6 @@ pub(crate) struct Step {
     pub ended: bool,
 }
 
-// The cursor that tl_open makes of its arguments. (A filter above 64 bytes it has refused.)
-pub(crate) fn cursor(filter: &[u8], from: u64, to: u64, limit: u64, desc: bool) -> Cursor {
-    let mut f = [0u8; 64];
-    if filter.len() <= 64 {
-        le::copy_at(filter, &mut f, 0);
-    }
-    Cursor {
-        filter: f,
-        size: filter.len(),
-        from: EventId(from),
-        to: EventId(to),
-        limit,
-        desc,
-    }
-}
-
 // The numbers of the records that these bytes are.
 fn ids(page: &[u8]) {
     let mut at: usize = 0;
@@ -62,16 +46,17 @@ fn found(p: Page, memory: &[u8]) -> bool {
     kept(le::front(memory, 64));
     match p {
         Page::End => {
-            word(b" end");
+            word(b": end");
             kept(memory);
             true
         }
         Page::Short => {
-            word(b" no room");
+            word(b": no room");
             kept(memory);
             false
         }
         Page::Bytes(n) => {
+            word(b":");
             number(n as u64);
             word(b" bytes ids");
             ids(le::cut(memory, 64, n));
@@ -88,7 +73,6 @@ fn stands(c: Cursor) {
     number(c.to.0);
     word(b" limit");
     number(c.limit);
-    word(b"\n");
 }
 
 // The cursor's next page in cap bytes, of the part s, whose records are numbered from first up to next.
@@ -127,39 +111,9 @@ pub(crate) fn page(
             ended,
         };
     }
-    word(b" not such a chain\n");
+    word(b": not such a chain");
     Step {
         cursor: c,
         ended: true,
     }
-}
-
-// A page of the first n bytes of the card, whose records are numbered up to `next`, for a module: 1 may list one topic, 2 none, 3 all four.
-pub(crate) fn page_of(n: usize, next: u64, module: u64, c: Cursor, cap: usize) -> Step {
-    let mut card = [0u8; 1024];
-    crate::build::six(&mut card);
-    let text =
-        b"modules\t3\ngrant\t1\tin\tloop/take\ngrant\t2\tout\tloop/take\ngrant\t3\tin\tloop/take\ngrant\t3\tin\ta\ngrant\t3\tin\tloop/mix\ngrant\t3\tin\tloop/take/2\n";
-    page(
-        le::front(&card, n),
-        1,
-        next,
-        text,
-        Wanted::Granted(module),
-        c,
-        cap,
-    )
-}
-
-// A page of all six, for the module that may list them.
-pub(crate) fn next(c: Cursor, cap: usize) -> Step {
-    page_of(992, 7, 3, c, cap)
-}
-
-// What a read of the staged records gives.
-pub(crate) fn read(topic: &[u8], start: u64, cap: usize) -> Step {
-    let mut staging = [0u8; 1024];
-    let n = crate::build::two(&mut staging, 0);
-    let c = Cursor::reading(EventId(start));
-    page(le::front(&staging, n), 7, 9, topic, Wanted::Exactly, c, cap)
 }

@@ -1,9 +1,9 @@
--- `edges_card::lists::laid` is safe and ends: the chain was tested. Assumes nothing.
+-- `edges_card::pages::laid` is safe and ends: the chain was tested. Assumes nothing.
 use mathlib.Core.Path.{sym, _∙_}
 use native.Mathlib.Omega.{arith}
 use borrow.Author.Needs.{needs}
-use Rattle.edges_card.proofs.lists.laid.Statement.{statement}
-use Rattle.edges_card.proofs.lists.laid.Tie as tie
+use Rattle.edges_card.proofs.pages.laid.Statement.{statement}
+use Rattle.edges_card.proofs.pages.laid.Tie as tie
 
 copy-page-requires : tie.Need-copy-page-requires
 copy-page-requires c κs = (sym (c .before .before .before .chain-to .ensures) ∙ c .before .before .if3 .taken, omega arith)
@@ -14,6 +14,7 @@ laid-spec =
     (tie.spec
     (λ c. search needs)
     (λ c. search needs)
+    (λ c κs. search needs)
     (λ c κs. search needs)
     (λ c κs. search needs)
     copy-page-requires
