@@ -1,0 +1,119 @@
+// A page: its bytes and the numbers of its records, and where the cursor then stands.
+use crate::say::number;
+use crate::say::word;
+use card::Cursor;
+use card::Page;
+use card::Wanted;
+use manifest::Manifest;
+use record::EventId;
+
+// The cursor after a page, and whether the list had ended.
+pub(crate) struct Step {
+    pub cursor: Cursor,
+    pub ended: bool,
+}
+
+// The numbers of the records that these bytes are.
+fn ids(page: &[u8]) {
+    let mut at: usize = 0;
+    while at < page.len() {
+        if page.len() - at < 16 {
+            return;
+        }
+        number(le::read_u64(page, at + 8));
+        let n = le::read_u32(page, at) as usize;
+        if n == 0 {
+            return;
+        }
+        at += n;
+    }
+}
+
+// Memory outside of the page has the bytes that it had.
+fn kept(s: &[u8]) {
+    let mut i: usize = 0;
+    while i < s.len() {
+        if s[i] != 0xEE {
+            word(b", and memory changed behind the page or before it");
+            return;
+        }
+        i += 1;
+    }
+}
+
+// What was found, and what now lies in memory from 64 on.
+fn found(p: Page, memory: &[u8]) -> bool {
+    kept(le::front(memory, 64));
+    match p {
+        Page::End => {
+            word(b": end");
+            kept(memory);
+            true
+        }
+        Page::Short => {
+            word(b": no room");
+            kept(memory);
+            false
+        }
+        Page::Bytes(n) => {
+            word(b":");
+            number(n as u64);
+            word(b" bytes ids");
+            ids(le::cut(memory, 64, n));
+            kept(le::tail(le::tail(memory, 64), n));
+            false
+        }
+    }
+}
+
+fn stands(c: Cursor) {
+    word(b", then from");
+    number(c.from.0);
+    word(b" to");
+    number(c.to.0);
+    word(b" limit");
+    number(c.limit);
+}
+
+// The cursor's next page in cap bytes, of the part s, whose records are numbered from first up to next.
+pub(crate) fn page(
+    s: &[u8],
+    first: u64,
+    next: u64,
+    text: &[u8],
+    w: Wanted,
+    c: Cursor,
+    cap: usize,
+) -> Step {
+    if 9223372036854775808 < first {
+        return Step {
+            cursor: c,
+            ended: true,
+        };
+    }
+    if 1920 < cap {
+        return Step {
+            cursor: c,
+            ended: true,
+        };
+    }
+    let a = EventId(first);
+    let e = EventId(next);
+    if card::walk::chain_to(s, a, e) {
+        let grants = Manifest::read(text);
+        let p = card::pages::measure(s, a, e, text, grants, w, c, cap);
+        let mut memory = [0xEEu8; 2048];
+        let after = card::pages::copy_page(s, a, e, text, grants, w, c, &mut memory, 64, cap);
+        let ended = found(p, &memory);
+        stands(after);
+        return Step {
+            cursor: after,
+            ended,
+        };
+    }
+    word(b": not such a chain");
+    Step {
+        cursor: c,
+        ended: true,
+    }
+}
