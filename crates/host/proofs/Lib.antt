@@ -1,3 +1,4 @@
 pub mod BufferLaws
 pub mod StageLaws
 pub mod EndingLaws
+pub mod PagingLaws

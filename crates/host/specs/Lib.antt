@@ -4,3 +4,4 @@ pub mod Begin
 pub mod Stage
 pub mod Ending
 pub mod Mount
+pub mod Paging

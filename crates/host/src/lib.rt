@@ -3,6 +3,8 @@ pub mod begin;
 pub mod cursors;
 pub mod ending;
 pub mod mount;
+pub mod next;
+pub mod page;
 pub mod stage;
 pub mod state;
 pub mod write;
