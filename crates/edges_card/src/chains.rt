@@ -1,7 +1,6 @@
 // The chain that a part is, and its numbers.
 use crate::build;
 use crate::input;
-use crate::say::answer;
 use crate::say::number;
 use crate::say::word;
 use card::Chain;
@@ -23,8 +22,11 @@ pub(crate) fn chain(s: &[u8], first: u64, next: u64) {
             number(at as u64);
         }
     }
-    word(b":");
-    answer(card::walk::chain_to(s, EventId(first), EventId(next)));
+    if card::walk::chain_to(s, EventId(first), EventId(next)) {
+        word(b": yes");
+    } else {
+        word(b": no");
+    }
 }
 
 // chain at n first next: of n bytes from `at` on.
