@@ -1,4 +1,4 @@
-// The records that the cases are about: six on the card, numbered from 1, and two staged behind them.
+// The records that the cases are about: six of the card, numbered from 1, and behind them, as a commit would append them, two that are staged.
 use record::EventId;
 use record::Header;
 use record::VirtualTime;
@@ -67,15 +67,15 @@ fn last(card: &mut [u8], at: usize) -> usize {
     add(card, next, head(6, 1, 3), b"loop/take", bytes)
 }
 
-// Six records, of 152, 152, 136, 176, 168 and 208 bytes: 992 in all.
-pub(crate) fn six(card: &mut [u8]) -> usize {
-    let four = three(card);
-    let five = string(card, four);
-    last(card, five)
+fn staged(card: &mut [u8], at: usize) -> usize {
+    let next = add(card, at, head(7, 1, 1), b"loop/take", b"bridge");
+    add(card, next, head(8, 1, 0), b"a", b"x")
 }
 
-// Two more behind the first `at` bytes, of 152 and 144 bytes.
-pub(crate) fn two(part: &mut [u8], at: usize) -> usize {
-    let next = add(part, at, head(7, 1, 1), b"loop/take", b"bridge");
-    add(part, next, head(8, 1, 0), b"a", b"x")
+// Six records, of 152, 152, 136, 176, 168 and 208 bytes: 992 in all. Then two, of 152 and 144: 1288.
+pub(crate) fn all(card: &mut [u8]) {
+    let four = three(card);
+    let five = string(card, four);
+    let seven = last(card, five);
+    staged(card, seven);
 }

@@ -22,22 +22,10 @@ pub(crate) fn size(l: &[u8], k: usize) -> usize {
     number(l, k) as usize
 }
 
-fn of_chains(l: &[u8], kind: &[u8]) {
-    if same(kind, b"part") {
-        chains::part(l);
-    }
-    if same(kind, b"from") {
-        chains::numbered(l);
-    }
-    if same(kind, b"card") {
-        chains::on_card(l);
-    }
-    if same(kind, b"staged") {
-        chains::in_staging(l);
-    }
-}
-
 fn of_records(l: &[u8], kind: &[u8]) {
+    if same(kind, b"chain") {
+        chains::case(l);
+    }
     if same(kind, b"set") {
         look::set(l);
     }
@@ -56,15 +44,11 @@ fn of_pages(l: &[u8], kind: &[u8]) {
     if same(kind, b"read") {
         pages::read(l);
     }
-    if same(kind, b"string") {
-        pages::string(l);
-    }
 }
 
 fn case(l: &[u8]) {
     word(l);
     let kind = field(l, 0);
-    of_chains(l, kind);
     of_records(l, kind);
     of_pages(l, kind);
     word(b"\n");

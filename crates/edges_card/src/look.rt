@@ -7,14 +7,12 @@ use crate::say::word;
 use card::walk::look_up;
 use record::EventId;
 
-// look used staged next id: of so many bytes of the card and of the staging buffer, and what is said to be the next number on the card.
+// look used staged next id: of so many bytes of the card and so many staged, and what is said to be the next number on the card.
 pub(crate) fn look(l: &[u8]) {
-    let mut card = [0u8; 1024];
-    let mut staging = [0u8; 1024];
-    build::six(&mut card);
-    build::two(&mut staging, 0);
+    let mut card = [0u8; 1400];
+    build::all(&mut card);
     let used = le::front(&card, input::size(l, 1));
-    let staged = le::front(&staging, input::size(l, 2));
+    let staged = le::cut(&card, 992, input::size(l, 2));
     let next = EventId(input::number(l, 3));
     found(look_up(used, staged, next, EventId(input::number(l, 4))));
 }
@@ -45,12 +43,11 @@ fn put(s: &mut [u8], at: usize, b: u64) {
 
 // set at b: the byte at `at` of the card becomes b. The chain, whether it goes up to 7, and the length of each record that look-up still gives.
 pub(crate) fn set(l: &[u8]) {
-    let mut card = [0u8; 1024];
-    let n = build::six(&mut card);
+    let mut card = [0u8; 1400];
+    build::all(&mut card);
     put(&mut card, input::size(l, 1), input::number(l, 2));
-    let s = le::front(&card, n);
-    chains::chain(s, 1);
-    chains::up_to(s, 1, 7);
+    let s = le::front(&card, 992);
+    chains::chain(s, 1, 7);
     word(b":");
     length(s, 1);
     length(s, 2);

@@ -10,11 +10,3 @@ pub(crate) fn number(n: u64) {
     word(b" ");
     io::print_decimal(STDOUT_FILENO, n);
 }
-
-pub(crate) fn answer(yes: bool) {
-    if yes {
-        word(b" yes");
-    } else {
-        word(b" no");
-    }
-}

@@ -6,6 +6,7 @@ use card::Page;
 use card::Wanted;
 use manifest::Manifest;
 use record::EventId;
+use record::Header;
 
 // The cursor after a page, and whether the list had ended.
 pub(crate) struct Step {
@@ -13,7 +14,23 @@ pub(crate) struct Step {
     pub ended: bool,
 }
 
-// The numbers of the records that these bytes are.
+// The pointer of the value that a record has.
+fn pointer(r: &[u8]) {
+    if r.len() < 128 {
+        return;
+    }
+    let n = le::read_u32(r, Header::TOPIC_LEN);
+    let flags = le::read_u32(r, Header::FLAGS);
+    let at = Header::payload_at(n);
+    if flags == 2 {
+        if at + 16 <= r.len() {
+            word(b" ptr");
+            number(le::read_u64(r, at + 8));
+        }
+    }
+}
+
+// The numbers of the records that these bytes are, and where they point to.
 fn ids(page: &[u8]) {
     let mut at: usize = 0;
     while at < page.len() {
@@ -21,6 +38,7 @@ fn ids(page: &[u8]) {
             return;
         }
         number(le::read_u64(page, at + 8));
+        pointer(le::tail(page, at));
         let n = le::read_u32(page, at) as usize;
         if n == 0 {
             return;
@@ -41,9 +59,9 @@ fn kept(s: &[u8]) {
     }
 }
 
-// What was found, and what now lies in memory from 64 on.
-fn found(p: Page, memory: &[u8]) -> bool {
-    kept(le::front(memory, 64));
+// What was found, and what now lies in memory from `out` on.
+fn found(p: Page, memory: &[u8], out: usize) -> bool {
+    kept(le::front(memory, out));
     match p {
         Page::End => {
             word(b": end");
@@ -59,8 +77,8 @@ fn found(p: Page, memory: &[u8]) -> bool {
             word(b":");
             number(n as u64);
             word(b" bytes ids");
-            ids(le::cut(memory, 64, n));
-            kept(le::tail(le::tail(memory, 64), n));
+            ids(le::cut(memory, out, n));
+            kept(le::tail(le::tail(memory, out), n));
             false
         }
     }
@@ -75,7 +93,7 @@ fn stands(c: Cursor) {
     number(c.limit);
 }
 
-// The cursor's next page in cap bytes, of the part s, whose records are numbered from first up to next.
+// The cursor's next page in cap bytes at the address `out`, of the part s, whose records are numbered from first up to next.
 pub(crate) fn page(
     s: &[u8],
     first: u64,
@@ -84,6 +102,7 @@ pub(crate) fn page(
     w: Wanted,
     c: Cursor,
     cap: usize,
+    out: usize,
 ) -> Step {
     if 9223372036854775808 < first {
         return Step {
@@ -91,7 +110,13 @@ pub(crate) fn page(
             ended: true,
         };
     }
-    if 1920 < cap {
+    if 1024 < cap {
+        return Step {
+            cursor: c,
+            ended: true,
+        };
+    }
+    if 1024 < out {
         return Step {
             cursor: c,
             ended: true,
@@ -103,8 +128,8 @@ pub(crate) fn page(
         let grants = Manifest::read(text);
         let p = card::pages::measure(s, a, e, text, grants, w, c, cap);
         let mut memory = [0xEEu8; 2048];
-        let after = card::pages::copy_page(s, a, e, text, grants, w, c, &mut memory, 64, cap);
-        let ended = found(p, &memory);
+        let after = card::pages::copy_page(s, a, e, text, grants, w, c, &mut memory, out, cap);
+        let ended = found(p, &memory, out);
         stands(after);
         return Step {
             cursor: after,

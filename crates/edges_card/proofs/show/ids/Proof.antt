@@ -30,6 +30,12 @@ read-u64-requires c κs = omega arith
 number-requires : tie.Need-number-requires Inv-loop μ-loop
 number-requires c κs = search needs
 
+tail-requires : tie.Need-tail-requires Inv-loop μ-loop
+tail-requires c κs = search needs
+
+pointer-requires : tie.Need-pointer-requires Inv-loop μ-loop
+pointer-requires c κs = search needs
+
 read-u32-requires : tie.Need-read-u32-requires Inv-loop μ-loop
 read-u32-requires c κs = omega arith
 
@@ -63,6 +69,8 @@ ids-spec =
     add-read-u64
     read-u64-requires
     number-requires
+    tail-requires
+    pointer-requires
     read-u32-requires
     cast-n
     returns-2

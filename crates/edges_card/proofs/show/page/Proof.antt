@@ -6,15 +6,16 @@ use Rattle.edges_card.proofs.show.page.Statement.{statement}
 use Rattle.edges_card.proofs.show.page.Tie as tie
 
 measure-requires : tie.Need-measure-requires
-measure-requires c κs = sym (c .before .before .chain-to .ensures) ∙ c .before .if3 .taken
+measure-requires c κs = sym (c .before .before .chain-to .ensures) ∙ c .before .if4 .taken
 
 copy-page-requires : tie.Need-copy-page-requires
-copy-page-requires c κs = (sym (c .before .before .before .before .chain-to .ensures) ∙ c .before .before .before .if3 .taken, omega arith)
+copy-page-requires c κs = (sym (c .before .before .before .before .chain-to .ensures) ∙ c .before .before .before .if4 .taken, omega arith)
 
 pub page-spec : {M : Type 1} → statement M
 page-spec =
     tie.close
     (tie.spec
+    (λ c. search needs)
     (λ c. search needs)
     (λ c. search needs)
     (λ c κs. search needs)
