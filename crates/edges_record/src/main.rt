@@ -1,4 +1,5 @@
 // Records at their edges: good ones as they are written, each rule of soundness broken one at a time, and records shown at addresses.
+mod cases;
 mod named;
 mod plain;
 mod printed;

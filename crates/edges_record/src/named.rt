@@ -1,4 +1,5 @@
 // Topics, and which agent may have which flags and the panic topic.
+use crate::cases;
 use crate::samples;
 use crate::samples::Sample;
 use crate::say;
@@ -62,20 +63,16 @@ fn too_long() {
     say::good(record::good::good_record(&b, EventId(9)));
 }
 
-// The ingress record, whose topic is the panic topic.
-fn ingress(label: &[u8], at: usize, byte: u8) {
-    samples::broken(label, Sample::Ingress, at, byte);
-}
-
-fn ingress_rules() {
-    ingress(b"agent 0 with flags 2", 4, 2);
-    ingress(b"agent 0 with flags 9", 4, 9);
-    ingress(b"agent 0 with flags 10", 4, 10);
-    ingress(b"the panic topic with agent 1", 32, 1);
-    ingress(b"the panic topic with agent 16", 32, 16);
-    ingress(b"another topic with agent 0", 146, 0x64);
-    ingress(b"topic's padding", 147, 1);
-    ingress(b"topic's padding", 151, 1);
+// The ingress record, whose topic is the panic topic: with another agent or other flags it is not good, with `panid` it is.
+fn ingress() {
+    cases::bytes(b"ingress, flags", Sample::Ingress, &[4_002, 4_009, 4_010]);
+    cases::bytes(b"ingress, auth_agent", Sample::Ingress, &[32_001, 32_016]);
+    cases::bytes(b"ingress, topic", Sample::Ingress, &[146_100]);
+    cases::bytes(
+        b"ingress, topic's padding",
+        Sample::Ingress,
+        &[147_001, 151_001],
+    );
 }
 
 pub fn run() {
@@ -83,5 +80,5 @@ pub fn run() {
     texts();
     longest();
     too_long();
-    ingress_rules();
+    ingress();
 }

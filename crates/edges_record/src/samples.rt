@@ -65,9 +65,10 @@ fn memory(kind: u32, first: u64, second: u64) -> [u8; 64] {
 }
 
 // The record of the value at 8 of such a memory; nothing where check 8 finds a fault, or where there is no room.
-fn with_value(h: Header, topic: &[u8], m: &[u8; 64]) -> [u8; 208] {
+fn with_value(h: Header, topic: &[u8], kind: u32, first: u64, second: u64) -> [u8; 208] {
     let mut b = [0xA5u8; 208];
-    let k = value::check::check_value(m, 8);
+    let m = memory(kind, first, second);
+    let k = value::check::check_value(&m, 8);
     let n = k.len;
     if n == 0 {
         return b;
@@ -78,7 +79,7 @@ fn with_value(h: Header, topic: &[u8], m: &[u8; 64]) -> [u8; 208] {
     if 16 < topic.len() {
         return b;
     }
-    record::put::put_value_record(&mut b, 8, h, &trace(), topic, m, 8, n as u32);
+    record::put::put_value_record(&mut b, 8, h, &trace(), topic, &m, 8, n as u32);
     b
 }
 
@@ -86,11 +87,11 @@ pub fn bytes(s: Sample) -> [u8; 208] {
     match s {
         Sample::Raw => raw(),
         Sample::Ingress => ingress(),
-        Sample::Text => with_value(header(1, 2, 16), b"loop/key", &memory(5, 40, 3)),
-        Sample::Float => with_value(header(2, 10, 1), b"a", &memory(4, 0xFFF0_0000_0000_0001, 0)),
-        Sample::Truth => with_value(header(3, 2, 2), b"a", &memory(1, 1, 0)),
-        Sample::Array => with_value(header(4, 10, 1), b"loop/key", &memory(9, 43, 2)),
-        Sample::Empty => with_value(header(5, 2, 1), b"a", &memory(5, 0, 0)),
+        Sample::Text => with_value(header(1, 2, 16), b"loop/key", 5, 40, 3),
+        Sample::Float => with_value(header(2, 10, 1), b"a", 4, 0xFFF0_0000_0000_0001, 0),
+        Sample::Truth => with_value(header(3, 2, 2), b"a", 1, 1, 0),
+        Sample::Array => with_value(header(4, 10, 1), b"loop/key", 9, 43, 2),
+        Sample::Empty => with_value(header(5, 2, 1), b"a", 5, 0, 0),
     }
 }
 
@@ -116,26 +117,4 @@ pub fn number(s: Sample) -> u64 {
         Sample::Array => 4,
         Sample::Empty => 5,
     }
-}
-
-// The first n bytes of a sample, asked for under the number id.
-pub fn asked(label: &[u8], s: Sample, n: usize, id: u64) {
-    let b = bytes(s);
-    crate::say::text(label);
-    crate::say::good(record::good::good_record(le::cut(&b, 8, n), EventId(id)));
-}
-
-// A sample with one byte changed.
-pub fn broken(label: &[u8], s: Sample, at: usize, byte: u8) {
-    let mut b = bytes(s);
-    if 200 <= at {
-        return;
-    }
-    b[8 + at] = byte;
-    crate::say::text(label);
-    crate::say::text(b", byte");
-    crate::say::number(at as u64);
-    crate::say::text(b" is");
-    crate::say::byte(byte as u64);
-    crate::say::good(record::good::good_record(le::cut(&b, 8, size(s)), EventId(number(s))));
 }

@@ -5,10 +5,14 @@ pub fn text(s: &[u8]) {
     io::write_all(STDOUT_FILENO, s);
 }
 
+pub fn count(n: u64) {
+    io::print_decimal(STDOUT_FILENO, n);
+}
+
 // Behind a blank.
 pub fn number(n: u64) {
     text(b" ");
-    io::print_decimal(STDOUT_FILENO, n);
+    count(n);
 }
 
 // Behind a blank, two digits of base 16.

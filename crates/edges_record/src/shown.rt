@@ -1,4 +1,6 @@
 // Records handed to a module.
+use crate::cases;
+use crate::cases::Question;
 use crate::samples;
 use crate::samples::Sample;
 use crate::say;
@@ -34,32 +36,34 @@ fn told(m: &[u8; 512], r: &[u8], at: usize) {
     say::text(b"\n");
 }
 
-// The sample with these flags.
-fn shown(label: &[u8], s: Sample, flags: u8, at: usize) {
+pub fn shown(label: &[u8], s: Sample, flags: u32, address: u64) {
+    let at = address as usize;
     let mut b = samples::bytes(s);
-    b[12] = flags;
+    le::put_u32(&mut b, 12, flags);
     let r = le::cut(&b, 8, samples::size(s));
     let m = placed(r, samples::number(s), at);
     say::text(label);
     say::text(b", flags");
     say::number(flags as u64);
     say::text(b", at");
-    say::number(at as u64);
+    say::number(address);
     told(&m, r, at);
 }
 
+fn each(label: &[u8], s: Sample, table: &[u32]) {
+    cases::each(label, s, Question::Address, table);
+}
+
 pub fn run() {
-    shown(b"raw", Sample::Raw, 9, 8);
-    shown(b"ingress", Sample::Ingress, 1, 8);
-    shown(b"string", Sample::Text, 2, 8);
-    shown(b"string", Sample::Text, 10, 8);
-    shown(b"string", Sample::Text, 2, 304);
-    shown(b"string as a raw payload", Sample::Text, 1, 8);
-    shown(b"string as a raw payload", Sample::Text, 9, 8);
-    shown(b"byte array", Sample::Array, 10, 64);
-    shown(b"byte array", Sample::Array, 2, 64);
-    shown(b"byte array as a raw payload", Sample::Array, 9, 64);
-    shown(b"empty string", Sample::Empty, 2, 16);
-    shown(b"float", Sample::Float, 10, 8);
-    shown(b"boolean", Sample::Truth, 2, 8);
+    each(b"raw", Sample::Raw, &[9_008, 1_008]);
+    each(b"ingress", Sample::Ingress, &[1_008]);
+    each(
+        b"string",
+        Sample::Text,
+        &[2_008, 10_008, 2_304, 1_008, 9_008],
+    );
+    each(b"byte array", Sample::Array, &[2_064, 10_064, 9_064]);
+    each(b"empty string", Sample::Empty, &[2_016, 1_016]);
+    each(b"float", Sample::Float, &[10_008]);
+    each(b"boolean", Sample::Truth, &[2_008]);
 }
