@@ -1,23 +1,27 @@
-// Good records. Each is written at 8 of a buffer that has a5 in every byte, and at least 8 of these stay behind it.
+// Good records, by number. Each is written at 8 of a buffer that has a5 in every byte, and at least 8 of these stay behind it.
+//
+// 1  raw: flags 9, module 3, topic `loop/take`, payload `verse`: P1's sizes
+// 2  ingress: the panic topic, payload `downbeat`
+// 3  a string: flags 2, module 16, topic `loop/key`, `abc`: P3's sizes
+// 4  a float: flags 10, module 1, topic `a`, P7's, which is not a number
+// 5  a boolean: flags 2, module 2, topic `a`, true
+// 6  a byte array: flags 10, module 1, topic `loop/key`, 2 bytes that are no UTF-8
+// 7  an empty string: flags 2, module 1, topic `a`
+use crate::say;
 use record::EventId;
 use record::Header;
 use record::VirtualTime;
 
-pub enum Sample {
-    // Flags 9, module 3, topic `loop/take`, payload `verse`: P1's sizes.
-    Raw,
-    // Ingress: the panic topic, payload `downbeat`.
-    Ingress,
-    // Flags 2, module 16, topic `loop/key`, the string `abc`: P3's sizes.
-    Text,
-    // Flags 10, module 1, topic `a`, P7's float that is not a number.
-    Float,
-    // Flags 2, module 2, topic `a`, true.
-    Truth,
-    // Flags 10, module 1, topic `loop/key`, a byte array of 2 that is no UTF-8.
-    Array,
-    // Flags 2, module 1, topic `a`, the empty string.
-    Empty,
+pub fn name(sample: u32) {
+    match sample {
+        1 => say::text(b"raw"),
+        2 => say::text(b"ingress"),
+        3 => say::text(b"string"),
+        4 => say::text(b"float"),
+        5 => say::text(b"boolean"),
+        6 => say::text(b"byte array"),
+        _ => say::text(b"empty string"),
+    }
 }
 
 pub fn header(id: u64, flags: u32, agent: u64) -> Header {
@@ -39,17 +43,15 @@ pub fn trace() -> [u8; 32] {
     t
 }
 
-fn raw() -> [u8; 208] {
+fn with_bytes(h: Header, topic: &[u8], payload: &[u8]) -> [u8; 208] {
     let mut b = [0xA5u8; 208];
-    let h = header(7, 9, 3);
-    record::put::put_record(&mut b, 8, h, &trace(), b"loop/take", b"verse");
-    b
-}
-
-fn ingress() -> [u8; 208] {
-    let mut b = [0xA5u8; 208];
-    let h = header(8, 1, 0);
-    record::put::put_record(&mut b, 8, h, &trace(), b"filament/core/panic", b"downbeat");
+    if 24 < topic.len() {
+        return b;
+    }
+    if 40 < payload.len() {
+        return b;
+    }
+    record::put::put_record(&mut b, 8, h, &trace(), topic, payload);
     b
 }
 
@@ -83,38 +85,40 @@ fn with_value(h: Header, topic: &[u8], kind: u32, first: u64, second: u64) -> [u
     b
 }
 
-pub fn bytes(s: Sample) -> [u8; 208] {
-    match s {
-        Sample::Raw => raw(),
-        Sample::Ingress => ingress(),
-        Sample::Text => with_value(header(1, 2, 16), b"loop/key", 5, 40, 3),
-        Sample::Float => with_value(header(2, 10, 1), b"a", 4, 0xFFF0_0000_0000_0001, 0),
-        Sample::Truth => with_value(header(3, 2, 2), b"a", 1, 1, 0),
-        Sample::Array => with_value(header(4, 10, 1), b"loop/key", 9, 43, 2),
-        Sample::Empty => with_value(header(5, 2, 1), b"a", 5, 0, 0),
+pub fn head(sample: u32) -> Header {
+    match sample {
+        1 => header(7, 9, 3),
+        2 => header(8, 1, 0),
+        3 => header(1, 2, 16),
+        4 => header(2, 10, 1),
+        5 => header(3, 2, 2),
+        6 => header(4, 10, 1),
+        _ => header(5, 2, 1),
     }
 }
 
-pub fn size(s: Sample) -> usize {
-    match s {
-        Sample::Raw => 152,
-        Sample::Ingress => 160,
-        Sample::Text => 176,
-        Sample::Float => 168,
-        Sample::Truth => 168,
-        Sample::Array => 176,
-        Sample::Empty => 168,
+pub fn bytes(sample: u32) -> [u8; 208] {
+    let h = head(sample);
+    match sample {
+        1 => with_bytes(h, b"loop/take", b"verse"),
+        2 => with_bytes(h, b"filament/core/panic", b"downbeat"),
+        3 => with_value(h, b"loop/key", 5, 40, 3),
+        4 => with_value(h, b"a", 4, 0xFFF0_0000_0000_0001, 0),
+        5 => with_value(h, b"a", 1, 1, 0),
+        6 => with_value(h, b"loop/key", 9, 43, 2),
+        _ => with_value(h, b"a", 5, 0, 0),
     }
 }
 
-pub fn number(s: Sample) -> u64 {
-    match s {
-        Sample::Raw => 7,
-        Sample::Ingress => 8,
-        Sample::Text => 1,
-        Sample::Float => 2,
-        Sample::Truth => 3,
-        Sample::Array => 4,
-        Sample::Empty => 5,
+// As many bytes as the record has.
+pub fn size(sample: u32) -> usize {
+    match sample {
+        1 => 152,
+        2 => 160,
+        3 => 176,
+        4 => 168,
+        5 => 168,
+        6 => 176,
+        _ => 168,
     }
 }

@@ -5,14 +5,10 @@ pub fn text(s: &[u8]) {
     io::write_all(STDOUT_FILENO, s);
 }
 
-pub fn count(n: u64) {
-    io::print_decimal(STDOUT_FILENO, n);
-}
-
 // Behind a blank.
 pub fn number(n: u64) {
     text(b" ");
-    count(n);
+    io::print_decimal(STDOUT_FILENO, n);
 }
 
 // Behind a blank, two digits of base 16.

@@ -7,10 +7,10 @@ use Rattle.edges_record.proofs.cases.each.Statement.{statement}
 use Rattle.edges_record.proofs.cases.each.Tie as tie
 
 abbrev Inv-loop : tie.InvT-loop
-Inv-loop label s q table i₀ i = i ≤ length table
+Inv-loop q table i₀ i = i ≤ length table
 
 abbrev μ-loop : tie.MeasureT-loop
-μ-loop label s q table i₀ i = length table - i
+μ-loop q table i₀ i = length table - i
 
 loop-holds : tie.Need-loop-holds Inv-loop μ-loop
 loop-holds c = omega arith
