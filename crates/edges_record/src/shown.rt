@@ -18,21 +18,7 @@ fn placed(r: &[u8], id: EventId, at: usize) -> [u8; 512] {
     m
 }
 
-// What stands at the address: the record, and 8 bytes behind it.
-fn told(m: &[u8; 512], r: &[u8], at: usize) {
-    let there = le::tail(m, at);
-    if text::compare::same(le::front(there, 128), le::front(r, 128)) {
-        say::text(b": the same,");
-    } else {
-        say::text(b": not the same,");
-    }
-    if r.len() < 120 {
-        return;
-    }
-    say::bytes(le::cut(there, 128, r.len() - 120));
-    say::text(b"\n");
-}
-
+// What then stands at the address: the record, and at least 8 bytes behind it.
 pub fn shown(sample: u32, flags: u32, address: u64) {
     let at = address as usize;
     let mut b = samples::bytes(sample);
@@ -44,5 +30,7 @@ pub fn shown(sample: u32, flags: u32, address: u64) {
     say::number(flags as u64);
     say::text(b", at");
     say::number(address);
-    told(&m, r, at);
+    say::text(b":");
+    say::bytes(le::cut(&m, at, 184));
+    say::text(b"\n");
 }
