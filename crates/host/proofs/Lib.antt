@@ -2,3 +2,4 @@ pub mod BufferLaws
 pub mod StageLaws
 pub mod EndingLaws
 pub mod PagingLaws
+pub mod ReadingLaws

@@ -5,3 +5,4 @@ pub mod Stage
 pub mod Ending
 pub mod Mount
 pub mod Paging
+pub mod Reading

@@ -5,6 +5,7 @@ pub mod ending;
 pub mod mount;
 pub mod next;
 pub mod page;
+pub mod read;
 pub mod stage;
 pub mod state;
 pub mod write;
