@@ -4,6 +4,7 @@ use mathlib.Core.Path.{_≡_}
 use mathlib.Core.Bool.{Bool, true, false}
 use mathlib.Core.List.{List, [], _∷_, _++_}
 use Prim.Native.Nat.{ℕ}
+use lib.IntN.{ℤ, pos}
 use lib.ListN.{length}
 use Rattle.le.specs.Splice.{zeros}
 use Rattle.text.specs.Utf8.{utf8}
@@ -14,6 +15,14 @@ use Rattle.text.specs.Flags.{goodFlags}
 use Rattle.value.specs.Cells.{cellBytes}
 use Rattle.value.specs.Scalars.{canonical}
 use Rattle.value.specs.Forms.{payload}
+use Rattle.record.specs.Record.{recordBytes}
+use Rattle.card.specs.Listing.{listOf, pageOf}
+use Rattle.card.specs.declared.Cursor.{Cursor}
+use Rattle.card.specs.declared.Page.{Page}
+use Rattle.card.specs.declared.Page.the-variants.{End, Short, Bytes}
+use Rattle.weave.specs.declared.Code.{Code}
+use Rattle.weave.specs.declared.Code.the-variants.{Bad}
+use Rattle.weave.specs.Codes.{reasonOf}
 
 -- a case: what is asked, and the answer last
 pub data Case : Type 0 where
@@ -24,9 +33,26 @@ pub data Case : Type 0 where
   float : ℕ → ℕ → Case
   topic : List ℕ → Bool → Case
   text : List ℕ → Bool → Case
+  page : ℕ → ℕ → ℕ → ℕ → Page → Case
+  returned : ℤ → Code → Case
+
+-- a take: topic 9, raw 5
+abbrev take9 : ℕ → List ℕ
+take9 n =
+    recordBytes (record { id = record { 0 = n }; flags = 1; time = record { 0 = 0 }; agent = 1 }) (zeros 32)
+    (108 ∷ 111 ∷ 111 ∷ 112 ∷ 47 ∷ 116 ∷ 97 ∷ 107 ∷ 101 ∷ []) (118 ∷ 101 ∷ 114 ∷ 115 ∷ 101 ∷ [])
+
+-- two of them, numbered 5 and 6
+unfoldable pub twoTakes : List (List ℕ)
+twoTakes = take9 5 ∷ take9 6 ∷ []
+
+-- a cursor upward over all topics
+abbrev pub cursorOver : ℕ → ℕ → ℕ → Cursor
+cursorOver from′ to′ limit′ = record { filter = zeros 64; size = 0; from = record { 0 = from′ }; to = record { 0 = to′ }; limit = limit′; desc = false }
 
 -- what a case says: the total_len of a topic and a payload of these lengths; the data_len of the value at p of memory m; good flags; a span inside; a
--- float's bits as they are stored (`float-canonical` of value's proofs/ScalarLaws.antt ties `canonical` to the code's float); a good topic; UTF-8
+-- float's bits as they are stored (`float-canonical` of value's proofs/ScalarLaws.antt ties `canonical` to the code's float); a good topic; UTF-8; what the first next of a cursor
+-- with this window, limit and capacity finds over two takes; what a return code means
 abbrev pub Holds : Case → Type 0
 Holds (total t d n) = totalLen t d ≡ n
 Holds (stored m p n) = length (payload m p) ≡ n
@@ -35,6 +61,8 @@ Holds (span ptr len m b) = inside ptr len m ≡ b
 Holds (float x n) = canonical x ≡ n
 Holds (topic s b) = goodTopic s ≡ b
 Holds (text s b) = utf8 s ≡ b
+Holds (page from to limit cap p) = pageOf cap (listOf (λ (t : List ℕ). true) (cursorOver from to limit) twoTakes) ≡ p
+Holds (returned code c) = reasonOf code ≡ c
 
 -- a memory with a string at 8, and the string's 3 bytes, `abc`, behind its 32
 abbrev string3 : List ℕ
@@ -63,4 +91,10 @@ edges =
     ∷ text (0xED ∷ 0xA0 ∷ 0x80 ∷ []) false
     ∷ text (0xF4 ∷ 0x90 ∷ 0x80 ∷ 0x80 ∷ []) false
     ∷ text (0xF4 ∷ 0x8F ∷ 0xBF ∷ 0xBF ∷ []) true
+    -- P10: window 5 to 5, or limit 0: first next answers 0
+    ∷ page 5 5 9 65536 End ∷ page 1 9 0 65536 End
+    -- P11: two records of 152: cap 151 gives -4, 303 one, 304 two
+    ∷ page 1 9 9 151 Short ∷ page 1 9 9 303 (Bytes 152) ∷ page 1 9 9 304 (Bytes 304)
+    -- P12: return 2: discard -5
+    ∷ returned (pos 2) Bad
     ∷ []
