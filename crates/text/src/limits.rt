@@ -1,4 +1,4 @@
-// 01, "Sizes". (A cursor's sizes belong to `Cursor`, a header's to `Header`.)
+// 01, "Sizes", but for those of a record, which belong to `Header`.
 pub struct Limits {}
 
 // Where a size may be from one number to another, the first is the `LEAST_`.
