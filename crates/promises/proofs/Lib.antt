@@ -1,1 +1,2 @@
 pub mod EdgesHold
+pub mod RefusalHolds
