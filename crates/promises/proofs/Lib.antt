@@ -1,2 +1,4 @@
 pub mod EdgesHold
 pub mod RefusalHolds
+pub mod AcceptedLaws
+pub mod OutcomeHolds

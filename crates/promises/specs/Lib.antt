@@ -1,3 +1,5 @@
 pub mod Box
 pub mod Refusal
+pub mod Outcome
+pub mod Diary
 pub mod Edges
