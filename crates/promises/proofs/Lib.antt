@@ -2,3 +2,5 @@ pub mod EdgesHold
 pub mod RefusalHolds
 pub mod AcceptedLaws
 pub mod OutcomeHolds
+pub mod StagedLaws
+pub mod DiaryHolds

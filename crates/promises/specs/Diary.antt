@@ -64,7 +64,7 @@ endedBy d (Ended f) = ended d f
 endedBy d (Part bytes) = d
 
 -- the entry of a call that was accepted
-abbrev noted : World → Diary → Op → Diary
+abbrev pub noted : World → Diary → Op → Diary
 noted w d (Begin args) = emptied d
 noted w d (Ingress topic payload) = held d (ingressRecord w topic payload)
 noted w d (Write m a) =
