@@ -4,3 +4,4 @@ pub mod AcceptedLaws
 pub mod OutcomeHolds
 pub mod StagedLaws
 pub mod DiaryHolds
+pub mod SlotLaws
