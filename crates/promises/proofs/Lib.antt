@@ -5,3 +5,4 @@ pub mod OutcomeHolds
 pub mod StagedLaws
 pub mod DiaryHolds
 pub mod SlotLaws
+pub mod TurnLaws

@@ -1,4 +1,4 @@
--- The table of cursors: what is found there after one slot was stored.
+-- The table of cursors, and what is found there after one slot was stored.
 -- Assumes nothing.
 use mathlib.Core.Path.{_≡_, refl, sym, ap, _∙_}
 use mathlib.Core.Bool.{Bool, true, false, cond, true≢false}
@@ -6,7 +6,7 @@ use mathlib.Core.List.{List, [], _∷_}
 use Prim.Native.Nat.{ℕ, zero, suc, _+_, _≤_, _<_}
 use native.Mathlib.Omega.{arith}
 use native.Mathlib.Nat.{not-suc-le-zero, le-of-suc-le-suc}
-use lib.ListN.{length, getD, set}
+use lib.ListN.{length, getD, set, replicate}
 use Rattle.le.proofs.TestLaws.{Tested, passes, fails, tested}
 use Rattle.card.specs.Pick.{only}
 use Rattle.weave.specs.Table.{placeOf}
@@ -24,6 +24,11 @@ module _ {A : Type 0} (p : A → Bool) (d : A) where
   pub many-fail : (x : A) (xs : List A) → p x ≡ false → many (x ∷ xs) ≡ many xs
   unfolding only
   many-fail x xs e = rw e
+
+  pub many-alike : (n : ℕ) (x : A) → p x ≡ false → many (replicate n x) ≡ 0
+  unfolding only
+  many-alike zero x e = refl
+  many-alike (suc n) x e = many-fail x (replicate n x) e ∙ many-alike n x e
 
   pub many-tail : (x : A) (xs : List A) → many xs ≤ many (x ∷ xs)
   many-tail x xs = go (tested (p x))

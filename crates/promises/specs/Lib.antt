@@ -2,4 +2,5 @@ pub mod Box
 pub mod Refusal
 pub mod Outcome
 pub mod Diary
+pub mod Turn
 pub mod Edges
