@@ -162,7 +162,7 @@ trace-long : (args : List ℕ) → length (traceOf args) ≡ 32
 unfolding traceOf
 trace-long args = length-splice (zeros 32) 0 (part 56 32 args) ∙ length-replicate {0} {A = ℕ} 32 0
 
-settle-ok : (h : Host) (c : Code) (v : ℕ) (next : Host) → not (isFine (settle h c v next .code)) ≡ false → isFine c ≡ true
+pub settle-ok : (h : Host) (c : Code) (v : ℕ) (next : Host) → not (isFine (settle h c v next .code)) ≡ false → isFine c ≡ true
 unfolding settle refused
 settle-ok h c v next e = go (isFine c) refl e
   where

@@ -6,3 +6,4 @@ pub mod StagedLaws
 pub mod DiaryHolds
 pub mod SlotLaws
 pub mod TurnLaws
+pub mod TurnHolds

@@ -24,19 +24,19 @@ use Rattle.promises.proofs.SlotLaws.{many, many-alike, stored-fewer, st
 -- ---- handles
 
 -- the slot of another handle
-other-handle : (k : ℕ) (s : Slot) → (s .handle ≡ k → ⊥) → hasHandle k s ≡ false
+pub other-handle : (k : ℕ) (s : Slot) → (s .handle ≡ k → ⊥) → hasHandle k s ≡ false
 unfolding hasHandle
 other-handle k s n = ne-eqb (s .handle) k n
 
-own-handle : (k : ℕ) (s : Slot) → s .handle ≡ k → hasHandle k s ≡ true
+pub own-handle : (k : ℕ) (s : Slot) → s .handle ≡ k → hasHandle k s ≡ true
 unfolding hasHandle
 own-handle k s e = eq-eqb (s .handle) k e
 
-handle-is : (k : ℕ) (s : Slot) → hasHandle k s ≡ true → s .handle ≡ k
+pub handle-is : (k : ℕ) (s : Slot) → hasHandle k s ≡ true → s .handle ≡ k
 unfolding hasHandle
 handle-is k s e = eqb-true (s .handle) k e
 
-free-handle : (k : ℕ) → 1 ≤ k → hasHandle k freeSlot ≡ false
+pub free-handle : (k : ℕ) → 1 ≤ k → hasHandle k freeSlot ≡ false
 unfolding freeSlot
 free-handle k h = other-handle k freeSlot (λ e. omega arith)
 
@@ -109,7 +109,7 @@ pub record Followed (running : Bool) (text : List ℕ) (turn used : ℕ) (card :
   pub most : k ≤ opened
   pub left : Left text turn used card slots k whole out
 
-append-nil : (l : List (List ℕ)) → l ++ [] ≡ l
+pub append-nil : (l : List (List ℕ)) → l ++ [] ≡ l
 append-nil [] = refl
 append-nil (x ∷ l) = ap (λ (z : List (List ℕ)). x ∷ z) (append-nil l)
 
