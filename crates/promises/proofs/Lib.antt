@@ -7,3 +7,4 @@ pub mod DiaryHolds
 pub mod SlotLaws
 pub mod TurnLaws
 pub mod TurnHolds
+pub mod PagesHold

@@ -119,7 +119,7 @@ module _ (w : World) (k : ℕ) (whole out : List (List ℕ)) (f : FollowedIn w k
   -- ---- calls that store a slot
 
   -- an open handle's place
-  handle-there : (j : ℕ) → handleFine (h .weave) j ≡ true → placeOf (hasHandle j) slots′ < length slots′
+  pub handle-there : (j : ℕ) → handleFine (h .weave) j ≡ true → placeOf (hasHandle j) slots′ < length slots′
   unfolding handleFine
   handle-there j e = rw (f .tidy .four) (ltb-true (placeOf (hasHandle j) slots′) 4 (and-right (ltb 0 j) _ e))
 
@@ -183,7 +183,7 @@ module _ (w : World) (k : ℕ) (whole out : List (List ℕ)) (f : FollowedIn w k
           (f .most))
 
   -- tl_next
-  next-handle-fine : (m : List ℕ) (at : ℕ) → isFine (nextCheck l h m at) ≡ true → handleFine (h .weave) (nextArgs m at .handle) ≡ true
+  pub next-handle-fine : (m : List ℕ) (at : ℕ) → isFine (nextCheck l h m at) ≡ true → handleFine (h .weave) (nextArgs m at .handle) ≡ true
   unfolding nextChecks
   next-handle-fine m at c = need-test _ NotNow refl (fine-at 3 (nextChecks l h m at) (next-sound l h m at c))
 
