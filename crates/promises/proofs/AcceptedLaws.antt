@@ -15,14 +15,17 @@ use Rattle.text.specs.Sizes.{totalLen}
 use Rattle.manifest.specs.Saying.{isGood, modulesSaid, manifestOf, mayRead, mayWrite}
 use Rattle.manifest.proofs.SayingLaws.{sized}
 use Rattle.weave.specs.declared.Code.{Code}
-use Rattle.weave.specs.declared.Code.the-variants.{NotNow, NoRoom, Bad, Budget, Denied}
+use Rattle.weave.specs.declared.Code.the-variants.{Fine, NotNow, NoRoom, Bad, Budget}
 use Rattle.weave.specs.declared.Weave.{Weave}
 use Rattle.weave.specs.Codes.{isFine, need, first, spoiledCode}
-use Rattle.weave.specs.Args.{writeArgs, topicFine}
-use Rattle.weave.specs.Checks.{sameLengths, numbersFine, turnFine, lentFine, runningCheck, budgetCheck}
+use Rattle.weave.specs.Args.{nextArgs, closeHandle}
+use Rattle.weave.specs.Checks.{sameLengths, numbersFine, turnFine, lentFine, runningCheck, handleFine, slotFine, budgetCheck}
 use Rattle.weave.proofs.CodeLaws.{fine-at, need-test, first-left, first-right}
 use Rattle.host.specs.declared.Host.{Host}
-use Rattle.host.specs.Hosts.{Lent, lengthsOf, lentCheck, gateCheck}
+use Rattle.host.specs.Hosts.{Lent, lengthsOf, lentCheck, gateCheck, refused, settle}
+use Rattle.host.specs.Cursors.{openCheck, closeCheck}
+use Rattle.host.specs.Paging.{nextChecks, nextCheck}
+use Rattle.host.proofs.PagingLaws.{next-sound}
 
 -- check 1, taken apart
 pub record Lawful (l : Lent) (h : Host) : Type 0 where
@@ -90,3 +93,33 @@ module _ (l : Lent) (h : Host) (size : ℕ) (e : isFine (gateCheck l h size) ≡
 pub budget-paid : (w : Weave) (charge : ℕ) → isFine (budgetCheck w charge) ≡ true → w .units + charge ≤ w .resmax
 unfolding budgetCheck
 budget-paid w charge e = leb-true (w .units + charge) (w .resmax) (need-test _ Budget refl e)
+
+-- ---- what was not refused was found no fault with
+
+pub settle-ok : (h : Host) (c : Code) (v : ℕ) (next : Host) → not (isFine (settle h c v next .code)) ≡ false → isFine c ≡ true
+unfolding settle refused
+settle-ok h c v next e = go (isFine c) refl e
+  where
+    go : (t : Bool) → isFine c ≡ t → not (isFine ((cond t (record { code = Fine; value = v; host = next }) (refused h c)) .code)) ≡ false → isFine c ≡ true
+    go true q e = q
+    go false q e = absurd (true≢false (sym (ap not q) ∙ e))
+
+-- ---- check 9
+
+module _ (l : Lent) (h : Host) (m : List ℕ) (at : ℕ) where
+  -- open: room in the table, and in the count of opens
+  pub open-slot : isFine (openCheck l h m at) ≡ true → slotFine (h .weave) ≡ true
+  unfolding openCheck
+  open-slot c =
+      need-test _ NoRoom refl
+      (first-left (need (slotFine (h .weave)) NoRoom) _
+      (first-right (need _ Bad) _ (first-right (need _ Bad) _ (first-right (need _ Bad) _ (first-right (gateCheck l h (length m)) _ c)))))
+
+  -- next and close: the handle is open
+  pub next-handle : isFine (nextCheck l h m at) ≡ true → handleFine (h .weave) (nextArgs m at .handle) ≡ true
+  unfolding nextChecks
+  next-handle c = need-test _ NotNow refl (fine-at 3 (nextChecks l h m at) (next-sound l h m at c))
+
+  pub close-handle : isFine (closeCheck l h m at) ≡ true → handleFine (h .weave) (closeHandle m at) ≡ true
+  unfolding closeCheck
+  close-handle c = need-test _ NotNow refl (first-left (need _ NotNow) _ (first-right (need _ Bad) _ (first-right (gateCheck l h (length m)) _ c)))

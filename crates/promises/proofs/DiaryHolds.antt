@@ -53,7 +53,7 @@ use Rattle.promises.specs.Refusal.{marked, Unchanged}
 use Rattle.promises.specs.Outcome.{Conditions}
 use Rattle.promises.specs.Diary.{Diary, ingressRecord, writtenRecord, spent, held, emptied, ended, noted, entered, diary, AgreesAt, Agrees}
 use Rattle.promises.proofs.RefusalHolds.{refusal}
-use Rattle.promises.proofs.AcceptedLaws.{Lawful, lawful, budget-paid}
+use Rattle.promises.proofs.AcceptedLaws.{Lawful, lawful, settle-ok, budget-paid}
 use Rattle.promises.proofs.OutcomeHolds.{conditions}
 use Rattle.promises.proofs.StagedLaws.{Stageable, ingress-staged, write-staged, write-budget}
 
@@ -161,14 +161,6 @@ refused-agrees w d o a e = let u = refusal w o e in rw (u .lent, u .host) (marke
 trace-long : (args : List ℕ) → length (traceOf args) ≡ 32
 unfolding traceOf
 trace-long args = length-splice (zeros 32) 0 (part 56 32 args) ∙ length-replicate {0} {A = ℕ} 32 0
-
-pub settle-ok : (h : Host) (c : Code) (v : ℕ) (next : Host) → not (isFine (settle h c v next .code)) ≡ false → isFine c ≡ true
-unfolding settle refused
-settle-ok h c v next e = go (isFine c) refl e
-  where
-    go : (t : Bool) → isFine c ≡ t → not (isFine ((cond t (record { code = Fine; value = v; host = next }) (refused h c)) .code)) ≡ false → isFine c ≡ true
-    go true q e = q
-    go false q e = absurd (true≢false (sym (ap not q) ∙ e))
 
 -- ---- what each accepted call leaves
 

@@ -6,5 +6,6 @@ pub mod StagedLaws
 pub mod DiaryHolds
 pub mod SlotLaws
 pub mod TurnLaws
+pub mod TidyHolds
 pub mod TurnHolds
 pub mod PagesHold

@@ -6,7 +6,7 @@ use mathlib.Core.List.{List, [], _∷_, _++_, append-assoc}
 use mathlib.Core.Logic.{_↔_}
 use Prim.Native.Nat.{ℕ, zero, suc, _+_, _≤_, _<_}
 use native.Mathlib.Omega.{arith}
-use borrow.Author.Tests.{eq-eqb, ltb-true}
+use borrow.Author.Tests.{eq-eqb, eqb-true, ltb-true, leb-true, leb-false}
 use lib.Dec.{leb, ltb}
 use lib.IntN.{ℤ}
 use lib.ListN.{length, take, getD, set, length-append}
@@ -39,14 +39,13 @@ use Rattle.host.specs.Hosts.{Lent, withWeave, gateCheck, refused, settle}
 use Rattle.host.specs.Cursors.{openCheck, openNext, openAnswer}
 use Rattle.host.specs.Paging.{nextSound, cursorOf, nextList, nextPage, nextCheck, nextPart, nextAnswer}
 use Rattle.host.proofs.PagingLaws.{next-sound}
-use Rattle.promises.specs.Box.{World, Op, Open, Next, Said, Answered, step, isRefused, run}
+use Rattle.promises.specs.Box.{World, Op, Begin, Ingress, Write, Read, Open, Next, Close, Return, LookUp, Said, Answered, step, isRefused, run}
 use Rattle.promises.specs.Diary.{answerOf}
-use Rattle.promises.specs.Turn.{InTurn, givenBy, handedOver, listLeft, FirstPart, Tidy}
-use Rattle.promises.proofs.AcceptedLaws.{gate-running}
-use Rattle.promises.proofs.DiaryHolds.{settle-ok}
+use Rattle.promises.specs.Turn.{InTurn, givenBy, handedOver, listLeft, FirstPart, TidyIn, isNextOn, Nexts}
+use Rattle.promises.proofs.AcceptedLaws.{gate-running, settle-ok, open-slot, next-handle}
 use Rattle.promises.proofs.SlotLaws.{place-none, place-new, got-stored, length-stored}
 use Rattle.promises.proofs.TurnLaws.{own-handle, tidy-opened, Left, listing, shut, append-nil}
-use Rattle.promises.proofs.TurnHolds.{FollowedIn, handle-there, next-handle-fine, follow-step, follow-run}
+use Rattle.promises.proofs.TurnHolds.{FollowedIn, handle-there, follow-step, follow-run}
 
 -- ---- a page is never empty but at the end
 
@@ -127,7 +126,7 @@ module _ (w : World) (m : List ℕ) (at : ℕ) (e : isRefused (step w (Next m at
     left-is = go (f .left)
       where
         p : placeOf (hasHandle k) (w .host .weave .slots) < length (w .host .weave .slots)
-        p = rw is at (handle-there w k whole out f (nextArgs m at .handle) (next-handle-fine w k whole out f m at fine))
+        p = rw is at (handle-there w k whole out f (nextArgs m at .handle) (next-handle (w .lent) (w .host) m at fine))
 
         go : Left (w .lent .text) (w .host .weave .turn) (w .host .used) (w .lent .card) (w .host .weave .slots) k whole out → out ++ listLeft w k ≡ whole
         go (listing p′ q) = q
@@ -152,11 +151,6 @@ module _ (w : World) (m : List ℕ) (at : ℕ) (e : isRefused (step w (Next m at
         rw (e, eq-eqb (nextArgs m at .handle) k is, is)
         (page-some (nextArgs m at .out .len) (listLeft w k) (rw is at page-fine) (λ z. n (ended z)))
 
--- ---- the tables that calls leave are tidy
-
-abbrev pub TidyIn : World → Type 0
-TidyIn w = Tidy (w .host .weave .slots) (w .host .weave .opened)
-
 -- ---- from an open on
 
 part-of : (text : List ℕ) (turn used : ℕ) (card : List ℕ) (slots : List Slot) (k : ℕ) (whole out : List (List ℕ)) → Left text turn used card slots k whole out → FirstPart out whole
@@ -174,20 +168,13 @@ module _ (w : World) (t : TidyIn w) (m : List ℕ) (at k : ℕ) (o : step w (Ope
   unfolding step openAnswer
   opened-fine = settle-ok (w .host) (openCheck (w .lent) (w .host) m at) _ _ (ap isRefused o)
 
-  free-room : slotFine (w .host .weave) ≡ true
-  unfolding openCheck
-  free-room =
-      need-test _ NoRoom refl
-      (first-left (need (slotFine (w .host .weave)) NoRoom) _
-      (first-right (need _ Bad) _ (first-right (need _ Bad) _ (first-right (need _ Bad) _ (first-right (gateCheck (w .lent) (w .host) (length m)) _ opened-fine)))))
-
   place-low : place < length slots′
   unfolding slotFine
-  place-low = rw (t .four) (ltb-true place 4 (and-left (ltb place 4) _ free-room))
+  place-low = rw (t .four) (ltb-true place 4 (and-left (ltb place 4) _ (open-slot (w .lent) (w .host) m at opened-fine)))
 
   few : w .host .weave .opened < 65535
   unfolding slotFine
-  few = ltb-true (w .host .weave .opened) 65535 (and-right (ltb place 4) _ free-room)
+  few = ltb-true (w .host .weave .opened) 65535 (and-right (ltb place 4) _ (open-slot (w .lent) (w .host) m at opened-fine))
 
   runs : w .host .weave .running ≡ true
   unfolding openCheck
@@ -255,3 +242,61 @@ module _ (w : World) (t : TidyIn w) (m : List ℕ) (at k : ℕ) (o : step w (Ope
     pub end-exactly : (m′ : List ℕ) (at′ : ℕ) → nextArgs m′ at′ .handle ≡ k → isRefused (step (run w₁ os) (Next m′ at′) .said) ≡ false
         → (answerOf (step (run w₁ os) (Next m′ at′) .said) ≡ 0) ↔ (handedOver k w₁ os ≡ listLeft w₁ k)
     end-exactly m′ at′ is e = zero-exactly (run w₁ os) m′ at′ e k is (listLeft w₁ k) (handedOver k w₁ os) followed
+
+-- ---- nothing of this holds because nothing happens: as many accepted nexts as there are events bring the whole list out
+
+next-in-turn : (k : ℕ) (o : Op) → isNextOn k o ≡ true → InTurn o
+next-in-turn k (Begin args) e = tt
+next-in-turn k (Ingress topic payload) e = tt
+next-in-turn k (Write m a) e = tt
+next-in-turn k (Read m a) e = tt
+next-in-turn k (Open m a) e = tt
+next-in-turn k (Next m a) e = tt
+next-in-turn k (Close m a) e = tt
+next-in-turn k (Return code) e = absurd (true≢false (sym e))
+next-in-turn k (LookUp id) e = tt
+
+next-gives : (w : World) (k : ℕ) (whole out : List (List ℕ)) → FollowedIn w k whole out → (o : Op) → isNextOn k o ≡ true → isRefused (step w o .said) ≡ false
+    → (out ≡ whole → ⊥) → 1 ≤ length (givenBy k w o)
+next-gives w k whole out f (Begin args) i e n = absurd (true≢false (sym i))
+next-gives w k whole out f (Ingress topic payload) i e n = absurd (true≢false (sym i))
+next-gives w k whole out f (Write m a) i e n = absurd (true≢false (sym i))
+next-gives w k whole out f (Read m a) i e n = absurd (true≢false (sym i))
+next-gives w k whole out f (Open m a) i e n = absurd (true≢false (sym i))
+next-gives w k whole out f (Next m a) i e n = some-given w m a e k (eqb-true (nextArgs m a .handle) k i) whole out f n
+next-gives w k whole out f (Close m a) i e n = absurd (true≢false (sym i))
+next-gives w k whole out f (Return code) i e n = absurd (true≢false (sym i))
+next-gives w k whole out f (LookUp id) i e n = absurd (true≢false (sym i))
+
+-- a first part that is as long is the whole
+all-out : (whole out rest : List (List ℕ)) → out ++ rest ≡ whole → length whole ≤ length out → out ≡ whole
+all-out whole out rest e h = sym (append-nil out) ∙ ap (λ (x : List (List ℕ)). out ++ x) (sym (nothing rest (omega (arith, ap length e, length-append out rest)))) ∙ e
+
+drained-from : (os : List Op) (w : World) (k : ℕ) (whole out : List (List ℕ)) → FollowedIn w k whole out → Nexts k w os → length whole ≤ length out + length os
+    → length whole ≤ length (out ++ handedOver k w os)
+drained-from [] w k whole out f n h = rw (append-nil out) (omega arith)
+drained-from (o ∷ os) w k whole out f n h =
+    go (tested (leb (length whole) (length out)))
+    (λ h′. drained-from os (step w o .world) k whole (out ++ givenBy k w o) (follow-step w k whole out f o (next-in-turn k o (n .0))) (n .1 .1) h′)
+  where
+    go : Tested (leb (length whole) (length out))
+        → (length whole ≤ length (out ++ givenBy k w o) + length os → length whole ≤ length ((out ++ givenBy k w o) ++ handedOver k (step w o .world) os))
+        → length whole ≤ length (out ++ (givenBy k w o ++ handedOver k (step w o .world) os))
+    go (passes e) ih = omega (arith, leb-true (length whole) (length out) e, length-append out (givenBy k w o ++ handedOver k (step w o .world) os))
+    go (fails e) ih =
+        let short = leb-false (length whole) (length out) e in
+        let more = next-gives w k whole out f o (n .0) (n .1 .0) (λ q. omega (arith, short, ap length q)) in
+        rw (← append-assoc out (givenBy k w o) (handedOver k (step w o .world) os)) (ih (omega (arith, h, more, length-append out (givenBy k w o))))
+
+nexts-in-turn : (os : List Op) (w : World) (k : ℕ) → Nexts k w os → All InTurn os
+nexts-in-turn [] w k n = tt
+nexts-in-turn (o ∷ os) w k n = (next-in-turn k o (n .0), nexts-in-turn os (step w o .world) k (n .1 .1))
+
+-- THE PROMISE, drained: as many nexts that are not refused as the list has events, and the whole list is out
+pub drained : (w : World) → TidyIn w → (m : List ℕ) (at k : ℕ) → step w (Open m at) .said ≡ Answered Fine k → (os : List Op)
+    → Nexts k (step w (Open m at) .world) os → length (listLeft (step w (Open m at) .world) k) ≤ length os
+    → handedOver k (step w (Open m at) .world) os ≡ listLeft (step w (Open m at) .world) k
+drained w t m at k o os n h =
+    let w₁ = step w (Open m at) .world in
+    let p = first-part w t m at k o os (nexts-in-turn os w₁ k n) in
+    all-out (listLeft w₁ k) (handedOver k w₁ os) (p .0) (p .1) (drained-from os w₁ k (listLeft w₁ k) [] (open-follows w t m at k o) n (omega arith))

@@ -43,7 +43,7 @@ use Rattle.promises.specs.Refusal.{marked}
 use Rattle.promises.specs.Diary.{answerOf}
 use Rattle.promises.specs.Turn.{InTurn, givenBy, handedOver, listLeft, FirstPart, Tidy}
 use Rattle.promises.proofs.RefusalHolds.{refusal}
-use Rattle.promises.proofs.DiaryHolds.{settle-ok}
+use Rattle.promises.proofs.AcceptedLaws.{settle-ok, open-slot, next-handle, close-handle}
 use Rattle.promises.proofs.SlotLaws.{place-none, place-passes, place-new, got-stored, length-stored}
 use Rattle.promises.proofs.TurnLaws.{other-handle, own-handle, handle-is, free-handle, tidy-none, tidy-free, tidy-moved, tidy-opened, listAt, Left, listing, shut, Followed, append-nil, follow-still, follow-other, follow-own, follow-shut}
 
@@ -133,16 +133,9 @@ module _ (w : World) (k : ℕ) (whole out : List (List ℕ)) (f : FollowedIn w k
       other-handle k _ (λ e. n (sym (handle-is j (getD slots′ (placeOf (hasHandle j) slots′) freeSlot) (place-passes (hasHandle j) freeSlot slots′ p)) ∙ e))
 
   -- tl_open: its handle is new, and its room was free
-  slot-fine : (m : List ℕ) (at : ℕ) → isFine (openCheck l h m at) ≡ true → slotFine (h .weave) ≡ true
-  unfolding openCheck
-  slot-fine m at c =
-      need-test _ NoRoom refl
-      (first-left (need (slotFine (h .weave)) NoRoom) _
-      (first-right (need _ Bad) _ (first-right (need _ Bad) _ (first-right (need _ Bad) _ (first-right (gateCheck l h (length m)) _ c)))))
-
   few-opened : (m : List ℕ) (at : ℕ) → isFine (openCheck l h m at) ≡ true → h .weave .opened < 65535
   unfolding slotFine
-  few-opened m at c = ltb-true (h .weave .opened) 65535 (and-right (ltb (placeOf (hasHandle 0) slots′) 4) _ (slot-fine m at c))
+  few-opened m at c = ltb-true (h .weave .opened) 65535 (and-right (ltb (placeOf (hasHandle 0) slots′) 4) _ (open-slot l h m at c))
 
   handle-new : (m : List ℕ) (at : ℕ) → isFine (openCheck l h m at) ≡ true → added (h .weave .opened) 1 65535 ≡ h .weave .opened + 1
   handle-new m at c = added-sum (h .weave .opened) 1 65535 (omega (arith, few-opened m at c))
@@ -158,10 +151,6 @@ module _ (w : World) (k : ℕ) (whole out : List (List ℕ)) (f : FollowedIn w k
       (tidy-opened slots′ (h .weave .opened) (f .tidy) (placeOf (hasHandle 0) slots′) _ refl)
       (omega (arith, f .most)))
 
-  close-handle-fine : (m : List ℕ) (at : ℕ) → isFine (closeCheck l h m at) ≡ true → handleFine (h .weave) (closeHandle m at) ≡ true
-  unfolding closeCheck
-  close-handle-fine m at c = need-test _ NotNow refl (first-left (need _ NotNow) _ (first-right (need _ Bad) _ (first-right (gateCheck l h (length m)) _ c)))
-
   close-followed : (m : List ℕ) (at : ℕ) → isRefused (step w (Close m at) .said) ≡ false → FollowedIn (step w (Close m at) .world) k whole (out ++ [])
   unfolding step closeAnswer settle refused closeNext withWeave paid tabled
   close-followed m at e = go (tested (eqb (closeHandle m at) k))
@@ -172,20 +161,15 @@ module _ (w : World) (k : ℕ) (whole out : List (List ℕ)) (f : FollowedIn w k
       go : Tested (eqb (closeHandle m at) k) → FollowedIn (step w (Close m at) .world) k whole (out ++ [])
       go (passes q) =
           let is : closeHandle m at ≡ k = eqb-true (closeHandle m at) k q in
-          rw (c, append-nil out, is) (follow-shut _ _ _ _ _ _ _ k whole out f (rw is at (handle-there (closeHandle m at) (close-handle-fine m at c))))
+          rw (c, append-nil out, is) (follow-shut _ _ _ _ _ _ _ k whole out f (rw is at (handle-there (closeHandle m at) (close-handle l h m at c))))
       go (fails q) =
-          let p = handle-there (closeHandle m at) (close-handle-fine m at c) in
+          let p = handle-there (closeHandle m at) (close-handle l h m at c) in
           rw (c, append-nil out)
           (follow-other _ _ _ _ _ _ _ k whole out f (placeOf (hasHandle (closeHandle m at)) slots′) freeSlot (h .weave .opened)
           (free-handle k (f .least))
           (not-k (closeHandle m at) (eqb-false (closeHandle m at) k q))
           (tidy-free slots′ (h .weave .opened) (f .tidy) (placeOf (hasHandle (closeHandle m at)) slots′))
           (f .most))
-
-  -- tl_next
-  pub next-handle-fine : (m : List ℕ) (at : ℕ) → isFine (nextCheck l h m at) ≡ true → handleFine (h .weave) (nextArgs m at .handle) ≡ true
-  unfolding nextChecks
-  next-handle-fine m at c = need-test _ NotNow refl (fine-at 3 (nextChecks l h m at) (next-sound l h m at c))
 
   next-followed : (m : List ℕ) (at : ℕ) → isRefused (step w (Next m at) .said) ≡ false → FollowedIn (step w (Next m at) .world) k whole (out ++ givenBy k w (Next m at))
   unfolding step nextAnswer settle refused nextHost nextCursor withWeave paid tabled cursorOf nextList
@@ -195,7 +179,7 @@ module _ (w : World) (k : ℕ) (whole out : List (List ℕ)) (f : FollowedIn w k
       c = settle-ok h (nextCheck l h m at) _ _ e
 
       p : placeOf (hasHandle (nextArgs m at .handle)) slots′ < length slots′
-      p = handle-there (nextArgs m at .handle) (next-handle-fine m at c)
+      p = handle-there (nextArgs m at .handle) (next-handle l h m at c)
 
       go : Tested (eqb (nextArgs m at .handle) k) → FollowedIn (step w (Next m at) .world) k whole (out ++ givenBy k w (Next m at))
       go (passes q) =

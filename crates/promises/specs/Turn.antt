@@ -2,7 +2,7 @@
 -- answers 0 exactly when the whole list was out before it".
 -- Assumes nothing.
 use mathlib.Core.Path.{_≡_}
-use mathlib.Core.Bool.{cond}
+use mathlib.Core.Bool.{Bool, true, false, cond}
 use mathlib.Core.List.{List, [], _∷_, _++_}
 use Prim.Native.Nat.{ℕ, _≤_, _<_}
 use lib.Dec.{eqb}
@@ -40,6 +40,18 @@ givenBy k w (Close m a) = []
 givenBy k w (Return code) = []
 givenBy k w (LookUp id) = []
 
+-- a next with the handle k
+abbrev pub isNextOn : ℕ → Op → Bool
+isNextOn k (Begin args) = false
+isNextOn k (Ingress topic payload) = false
+isNextOn k (Write m a) = false
+isNextOn k (Read m a) = false
+isNextOn k (Open m a) = false
+isNextOn k (Next m a) = eqb (nextArgs m a .handle) k
+isNextOn k (Close m a) = false
+isNextOn k (Return code) = false
+isNextOn k (LookUp id) = false
+
 -- .. and that a sequence of calls hands over
 abbrev pub handedOver : ℕ → World → List Op → List (List ℕ)
 handedOver k w [] = []
@@ -57,3 +69,11 @@ pub record Tidy (slots : List Slot) (opened : ℕ) : Type 0 where
   pub four : length slots ≡ 4
   pub once : (k : ℕ) → 1 ≤ k → length (only (hasHandle k) slots) ≤ 1
   pub none-above : (k : ℕ) → opened < k → length (only (hasHandle k) slots) ≡ 0
+
+abbrev pub TidyIn : World → Type 0
+TidyIn w = Tidy (w .host .weave .slots) (w .host .weave .opened)
+
+-- calls of next on the cursor k, none of them refused
+abbrev pub Nexts : ℕ → World → List Op → Type 0
+Nexts k w [] = Unit {0}
+Nexts k w (o ∷ os) = (isNextOn k o ≡ true) × ((isRefused (step w o .said) ≡ false) × Nexts k (step w o .world) os)
