@@ -9,3 +9,4 @@ pub mod TurnLaws
 pub mod TidyHolds
 pub mod TurnHolds
 pub mod PagesHold
+pub mod ShownLaws

@@ -3,4 +3,5 @@ pub mod Refusal
 pub mod Outcome
 pub mod Diary
 pub mod Turn
+pub mod ReadBack
 pub mod Edges
