@@ -10,3 +10,4 @@ pub mod TidyHolds
 pub mod TurnHolds
 pub mod PagesHold
 pub mod ShownLaws
+pub mod ReadBackHolds
