@@ -21,7 +21,6 @@ use Rattle.record.specs.Good.{goodRecord}
 use Rattle.record.specs.Shown.{shownFrom, Framed}
 use Rattle.record.specs.Written.{Written}
 use Rattle.record.proofs.ShownLaws.{good-shown}
-use Rattle.record.proofs.WrittenLaws.{written}
 use Rattle.card.specs.Pick.{All, only}
 use Rattle.card.specs.Records.{records, size}
 use Rattle.card.specs.Walk.{lookUp, recordOf}
@@ -35,15 +34,39 @@ use Rattle.weave.specs.Args.{writeArgs, readArgs, nextArgs}
 use Rattle.takes.specs.Payloads.{payloadBytes}
 use Rattle.host.specs.declared.Host.{Host}
 use Rattle.host.specs.Hosts.{Lent, lentCheck}
-use Rattle.host.specs.Stage.{headerFor, isPanic, writtenTopic, writeCheck, writeAnswer}
+use Rattle.host.specs.Stage.{headerFor, ingressCheck, ingressAnswer, ingressStaging, isPanic, writtenTopic, writeCheck, writeAnswer, writeStaging}
 use Rattle.host.specs.Paging.{cursorOf, nextList, nextPart, nextCheck, nextAnswer, nextMemory}
 use Rattle.host.specs.Mount.{looked}
 use Rattle.host.proofs.PagingLaws.{next-lies}
-use Rattle.promises.specs.Box.{World, Op, Write, Next, LookUp, Part, step, isRefused}
-use Rattle.promises.specs.Diary.{Diary, writtenRecord, Agrees}
+use Rattle.promises.specs.Box.{World, Op, Ingress, Write, Next, LookUp, Part, step, isRefused}
+use Rattle.promises.specs.Diary.{Diary, ingressRecord, writtenRecord, Agrees}
 use Rattle.promises.specs.ReadBack.{HasPage}
 use Rattle.promises.proofs.AcceptedLaws.{settle-ok}
+use Rattle.promises.proofs.StagedLaws.{ingress-back, write-back}
 use Rattle.promises.proofs.ShownLaws.{has-page}
+
+-- ---- the record that was staged
+
+-- an accepted write, but for a panic, stages a record that says the write's topic and its payload as 01 stores it, with the next number
+pub write-reads-back : (w : World) (m : List ℕ) (at : ℕ) → Bytes m → length (w .host .weave .trace) ≡ 32 → w .host .weave .time .0 < 256 ^ 8
+    → isRefused (step w (Write m at) .said) ≡ false → isPanic m at ≡ false
+    → (step w (Write m at) .world .lent .staging ≡ splice (w .lent .staging) (w .host .weave .staged) (writtenRecord w m at))
+      × Written (headerFor (w .host) (writeArgs m at .flags) (w .host .weave .turn)) (w .host .weave .trace) (writtenTopic m at) (payloadBytes m (writeArgs m at))
+        (writtenRecord w m at)
+unfolding step writeAnswer writeStaging writtenRecord
+write-reads-back w m at b l t e p =
+    let c = settle-ok (w .host) (writeCheck (w .lent) (w .host) m at) _ _ e in
+    (rw (c, p), write-back (w .lent) (w .host) m at l b c p t)
+
+-- an accepted ingress likewise
+pub ingress-reads-back : (w : World) (topic payload : List ℕ) → length (w .host .weave .trace) ≡ 32 → w .host .weave .time .0 < 256 ^ 8
+    → isRefused (step w (Ingress topic payload) .said) ≡ false
+    → (step w (Ingress topic payload) .world .lent .staging ≡ splice (w .lent .staging) (w .host .weave .staged) (ingressRecord w topic payload))
+      × Written (headerFor (w .host) 1 0) (w .host .weave .trace) topic payload (ingressRecord w topic payload)
+unfolding step ingressAnswer ingressStaging ingressRecord
+ingress-reads-back w topic payload l t e =
+    let c = settle-ok (w .host) (ingressCheck (w .lent) (w .host) topic payload) _ _ e in
+    (rw c, ingress-back (w .lent) (w .host) topic payload l c t)
 
 -- ---- look-up
 

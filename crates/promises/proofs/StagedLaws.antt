@@ -17,12 +17,14 @@ use Rattle.text.specs.Topic.{goodTopic, cardTopic}
 use Rattle.text.specs.Span.{inside}
 use Rattle.text.specs.Flags.{goodFlags, isValue}
 use Rattle.text.specs.Sizes.{totalLen}
+use Rattle.text.proofs.FlagLaws.{flags-most}
 use Rattle.value.specs.Forms.{payload}
 use Rattle.record.specs.declared.Header.{Header}
 use Rattle.record.specs.Record.{recordBytes}
 use Rattle.record.specs.Good.{goodKind, goodName, goodPayload, goodRecord}
 use Rattle.record.proofs.GoodLaws.{length-record, record-good}
-use Rattle.record.proofs.WrittenLaws.{raw-payload, value-payload}
+use Rattle.record.specs.Written.{Written}
+use Rattle.record.proofs.WrittenLaws.{raw-payload, value-payload, written as written-law}
 use Rattle.card.specs.Records.{records}
 use Rattle.card.specs.Walk.{chainTo}
 use Rattle.card.proofs.WalkLaws.{laid-one, laid-next}
@@ -73,6 +75,15 @@ module _ (l : Lent) (h : Host) (flags agent : ℕ) (topic take′ : List ℕ) (t
       (omega (arith, id-is, room-number h _ _ _ room)) kind name stored);
   }
 
+  -- all that is read back of it. (A virtual time is a number of 64 bits.)
+  pub stored-back : h .weave .time .0 < 256 ^ 8
+      → Written (headerFor h flags agent) (h .weave .trace) topic take′ (recordBytes (headerFor h flags agent) (h .weave .trace) topic take′)
+  unfolding headerFor goodKind
+  stored-back t =
+      let f : flags ≤ 10 = flags-most flags (and-left (goodFlags flags) _ kind) in
+      let a : agent ≤ 16 = leb-true agent 16 (and-left (leb agent 16) _ (and-right (goodFlags flags) _ kind)) in
+      written-law (headerFor h flags agent) (h .weave .trace) topic take′ traced (room-counted h _ _ _ room) (omega arith) (omega (arith, id-is, room-number h _ _ _ room)) t (omega arith)
+
 -- ---- ingress: raw, agent 0, any good topic
 
 ingress-kind : goodKind 1 0 ≡ true
@@ -87,6 +98,10 @@ module _ (l : Lent) (h : Host) (topic take′ : List ℕ) (traced : length (h .w
   pub ingress-staged : Stageable l h (recordBytes (headerFor h 1 0) (h .weave .trace) topic take′) (totalLen (length topic) (length take′))
   ingress-staged =
       stageable l h 1 0 topic take′ traced (ingress-room l h topic take′ true (sym fine) refl) ingress-kind ingress-name (raw-payload 1 take′ cc)
+
+  pub ingress-back : h .weave .time .0 < 256 ^ 8 → Written (headerFor h 1 0) (h .weave .trace) topic take′ (recordBytes (headerFor h 1 0) (h .weave .trace) topic take′)
+  ingress-back t =
+      stored-back l h 1 0 topic take′ traced (ingress-room l h topic take′ true (sym fine) refl) ingress-kind ingress-name (raw-payload 1 take′ cc) t
 
 -- ---- write, but for a panic
 
@@ -138,6 +153,12 @@ module _ (l : Lent) (h : Host) (m : List ℕ) (a : ℕ) (traced : length (h .wea
       subst (λ (n : ℕ). Stageable l h (recordBytes (headerFor h (writeArgs m a .flags) (h .weave .turn)) (h .weave .trace) (writtenTopic m a) (payloadBytes m (writeArgs m a))) n)
       (ap (λ (t : ℕ). totalLen t (length (payloadBytes m (writeArgs m a)))) (write-topic l h m a fine) ∙ ap (totalLen (writeArgs m a .topic .len)) (sym data-is))
       (stageable l h (writeArgs m a .flags) (h .weave .turn) (writtenTopic m a) (payloadBytes m (writeArgs m a)) traced room kind name stored)
+
+  pub write-back : h .weave .time .0 < 256 ^ 8
+      → Written (headerFor h (writeArgs m a .flags) (h .weave .turn)) (h .weave .trace) (writtenTopic m a) (payloadBytes m (writeArgs m a))
+        (recordBytes (headerFor h (writeArgs m a .flags) (h .weave .turn)) (h .weave .trace) (writtenTopic m a) (payloadBytes m (writeArgs m a)))
+  write-back t =
+      stored-back l h (writeArgs m a .flags) (h .weave .turn) (writtenTopic m a) (payloadBytes m (writeArgs m a)) traced room kind name stored t
 
   pub write-budget : h .weave .units + writeCharge (writeArgs m a .topic .len) (dataLen m a) ≤ h .weave .resmax
   unfolding writeChecks stageCheck
