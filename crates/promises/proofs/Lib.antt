@@ -11,3 +11,4 @@ pub mod TurnHolds
 pub mod PagesHold
 pub mod ShownLaws
 pub mod ReadBackHolds
+pub mod CardHolds

@@ -62,7 +62,7 @@ module _ (n s : ℕ) (x y z : Code) (e k : ℕ) where
   chosen true false c d q = absurd (no (Discarded y) refl q)
   chosen false b c d q = absurd (no (Refused z) refl q)
 
-abbrev fateIn : Said → Fate
+abbrev pub fateIn : Said → Fate
 fateIn (Answered c v) = Running
 fateIn (Ended f) = f
 fateIn (Part bytes) = Running

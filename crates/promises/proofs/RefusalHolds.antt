@@ -157,7 +157,7 @@ marked-once c h e = go (isBudget c)
 
 -- ---- "Read and tl_next change no memory byte but those"
 
-laid-there : (m : List ℕ) (at : ℕ) (bytes : List ℕ) (n : ℕ) → length bytes ≡ n → OnlyThere m (splice m at bytes) at n
+pub laid-there : (m : List ℕ) (at : ℕ) (bytes : List ℕ) (n : ℕ) → length bytes ≡ n → OnlyThere m (splice m at bytes) at n
 laid-there m at bytes n e = record {
   before = take-splice-before at m at bytes (omega arith);
   behind = drop-splice-after (at + n) m at bytes (omega (arith, e));
