@@ -1,18 +1,15 @@
 -- What an operation that is not refused is known to have: all that its checks ask.
 -- Assumes nothing.
 use mathlib.Core.Path.{_≡_, refl, sym, ap, _∙_}
-use mathlib.Core.Bool.{Bool, true, false, not, _&&_, _||_, cond, true≢false}
+use mathlib.Core.Bool.{Bool, true, false, not, _||_, cond, true≢false}
 use mathlib.Core.List.{List}
-use Prim.Native.Nat.{ℕ, _+_, _/_, _^_, _≤_, _<_}
+use Prim.Native.Nat.{ℕ, _+_, _^_, _≤_}
 use native.Mathlib.Omega.{arith}
 use borrow.Author.Tests.{leb-true, eqb-true}
-use lib.Dec.{leb, ltb, eqb}
+use lib.Dec.{leb, eqb}
 use lib.ListN.{length}
 use Rattle.le.proofs.TestLaws.{and-left, and-right}
-use Rattle.text.specs.Topic.{goodTopic}
-use Rattle.text.specs.Flags.{goodFlags}
-use Rattle.text.specs.Sizes.{totalLen}
-use Rattle.manifest.specs.Saying.{isGood, modulesSaid, manifestOf, mayRead, mayWrite}
+use Rattle.manifest.specs.Saying.{isGood, modulesSaid, manifestOf}
 use Rattle.manifest.proofs.SayingLaws.{sized}
 use Rattle.weave.specs.declared.Code.{Code}
 use Rattle.weave.specs.declared.Code.the-variants.{Fine, NotNow, NoRoom, Bad, Budget}
@@ -57,8 +54,8 @@ lawful l h e =
     let trn = and-right (numbersFine (h .next .0) (w .count)) _ a₄ in
     record {
       card-long =
-        eqb-true (length (l .card)) (h .lengths .card)
-        (and-left (eqb (length (l .card)) (h .lengths .card)) _ (and-right (eqb (length (l .staging)) (h .lengths .staging)) _ same));
+          eqb-true (length (l .card)) (h .lengths .card)
+          (and-left (eqb (length (l .card)) (h .lengths .card)) _ (and-right (eqb (length (l .staging)) (h .lengths .staging)) _ same));
       good = and-left (isGood (manifestOf (l .text))) _ a₁;
       used = leb-true (h .used) (length (l .card)) (and-left (leb (h .used) (length (l .card))) _ a₂);
       staged = leb-true (w .staged) (length (l .staging)) (and-left (leb (w .staged) (length (l .staging))) _ a₃);

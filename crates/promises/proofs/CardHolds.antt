@@ -3,7 +3,7 @@
 use mathlib.Core.Path.{_≡_, refl, sym, ap, _∙_}
 use mathlib.Core.Bool.{Bool, true, false, cond, true≢false}
 use mathlib.Core.List.{List, [], _∷_}
-use Prim.Native.Nat.{ℕ, _+_, _^_, _≤_}
+use Prim.Native.Nat.{ℕ, _^_}
 use native.Mathlib.Omega.{arith}
 use lib.IntN.{ℤ}
 use lib.ListN.{length, take}
@@ -14,7 +14,6 @@ use Rattle.weave.specs.declared.Code.{Code}
 use Rattle.weave.specs.declared.Code.the-variants.{Fine}
 use Rattle.weave.specs.declared.Spoiled.the-variants.{Overspent}
 use Rattle.weave.specs.Codes.{isFine, isBudget}
-use Rattle.weave.specs.Sums.{added}
 use Rattle.weave.specs.States.{freshWeave, spoilt}
 use Rattle.weave.proofs.SumLaws.{added-sum}
 use Rattle.takes.specs.Begun.{begun}
@@ -24,15 +23,14 @@ use Rattle.host.specs.declared.Fate.{Fate}
 use Rattle.host.specs.declared.Fate.the-variants.{Refused, Discarded, Running, Committed}
 use Rattle.host.specs.Hosts.{Lent, lentAs, withWeave, refused, settle}
 use Rattle.host.specs.Begin.{beginCheck, beginAnswer}
-use Rattle.host.specs.Stage.{ingressCheck, ingressAnswer, isPanic, panicked, written, writeCheck, writeAnswer}
-use Rattle.host.specs.Reading.{readCheck, readAnswer}
-use Rattle.host.specs.Cursors.{openCheck, openNext, openAnswer, closeCheck, closeNext, closeAnswer}
-use Rattle.host.specs.Paging.{nextCheck, nextHost, nextAnswer}
+use Rattle.host.specs.Stage.{ingressAnswer, isPanic, panicked, written, writeAnswer}
+use Rattle.host.specs.Reading.{readAnswer}
+use Rattle.host.specs.Cursors.{openNext, openAnswer, closeNext, closeAnswer}
+use Rattle.host.specs.Paging.{nextHost, nextAnswer}
 use Rattle.host.specs.Fates.{kept, ends}
 use Rattle.host.specs.Ending.{fateOf, committed, finished, returnAnswer, returnCard, returnStaging}
-use Rattle.promises.specs.Box.{World, Op, Begin, Ingress, Write, Read, Open, Next, Close, Return, LookUp, Said, Answered, Ended, Part, step, isRefused, codeOf, run}
-use Rattle.promises.specs.Refusal.{marked, OnlyThere}
-use Rattle.promises.specs.Outcome.{Conditions, SameCard, saysCommitted, NoneCommitted, Appended, butFaulted}
+use Rattle.promises.specs.Box.{World, Op, Begin, Ingress, Write, Read, Open, Next, Close, Return, LookUp, Ended, step, run}
+use Rattle.promises.specs.Outcome.{SameCard, saysCommitted, NoneCommitted, Appended, butFaulted}
 use Rattle.promises.proofs.RefusalHolds.{laid-there}
 use Rattle.promises.proofs.AcceptedLaws.{lawful}
 use Rattle.promises.proofs.OutcomeHolds.{fateIn, conditions}
@@ -117,8 +115,8 @@ module _ (w : World) where
         used = added-sum (h .used) (h .weave .staged) (h .lengths .card) (omega (arith, c .0 .fits, law .card-long));
         next = added-sum (h .next .0) (h .weave .count) (2 ^ 63) (law .numbers);
         bytes =
-          ap (λ (n : ℕ). part (h .used) n (splice (l .card) (h .used) (take (h .weave .staged) (l .staging)))) (sym long)
-          ∙ part-of-splice (l .card) (h .used) (take (h .weave .staged) (l .staging)) (omega (arith, long, c .0 .fits));
+            ap (λ (n : ℕ). part (h .used) n (splice (l .card) (h .used) (take (h .weave .staged) (l .staging)))) (sym long)
+            ∙ part-of-splice (l .card) (h .used) (take (h .weave .staged) (l .staging)) (omega (arith, long, c .0 .fits));
         others = laid-there (l .card) (h .used) (take (h .weave .staged) (l .staging)) (h .weave .staged) long;
         weave = refl;
         staging = refl;
@@ -133,7 +131,11 @@ module _ (w : World) where
 
 same-trans : (a b c : World) → SameCard a b → SameCard b c → SameCard a c
 same-trans a b c s t = record {
-  card = t .card ∙ s .card; text = t .text ∙ s .text; lengths = t .lengths ∙ s .lengths; used = t .used ∙ s .used; next = t .next ∙ s .next;
+  card = t .card ∙ s .card;
+  text = t .text ∙ s .text;
+  lengths = t .lengths ∙ s .lengths;
+  used = t .used ∙ s .used;
+  next = t .next ∙ s .next;
 }
 
 pub same-run : (os : List Op) (w : World) → NoneCommitted w os → SameCard w (run w os)
@@ -150,7 +152,7 @@ discard-left w code c q = (rw q, rw q (splice-nil (w .lent .card) (w .host .used
 pub discard-restores : (w : World) → w .host .weave ≡ freshWeave → (os : List Op) → NoneCommitted w os → (code : ℤ) (c : Code)
     → step (run w os) (Return code) .said ≡ Ended (Discarded c)
     → (step (run w os) (Return code) .world .lent .card ≡ w .lent .card)
-      × (step (run w os) (Return code) .world .host ≡ butFaulted (w .host) (run w os .host .faulted))
+    × (step (run w os) (Return code) .world .host ≡ butFaulted (w .host) (run w os .host .faulted))
 unfolding step returnAnswer withWeave
 discard-restores w fresh os n code c e =
     let s = same-run os w n in

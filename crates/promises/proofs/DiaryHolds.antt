@@ -1,9 +1,9 @@
 -- Promise 2 over the life of a box: it agrees with the diary, after every sequence of calls.
 -- Assumes nothing.
-use mathlib.Core.Path.{_≡_, refl, sym, ap, subst, _∙_}
-use mathlib.Core.Bool.{Bool, true, false, not, _&&_, cond, true≢false}
+use mathlib.Core.Path.{_≡_, refl, sym, ap, _∙_}
+use mathlib.Core.Bool.{Bool, true, false, cond, true≢false}
 use mathlib.Core.List.{List, [], _∷_, _++_}
-use Prim.Native.Nat.{ℕ, zero, suc, _+_, _/_, _^_, _≤_, _<_}
+use Prim.Native.Nat.{ℕ, _+_, _^_, _≤_, _<_}
 use native.Mathlib.Omega.{arith}
 use native.Mathlib.Nat.{add-zero, add-assoc}
 use borrow.Author.Tests.{not-false, leb-true}
@@ -15,22 +15,19 @@ use Rattle.le.specs.Splice.{part, splice, zeros}
 use Rattle.le.proofs.LeLaws.{Bytes}
 use Rattle.le.proofs.TestLaws.{and-left, and-right}
 use Rattle.le.proofs.SpliceLaws.{length-splice, splice-nil}
-use Rattle.text.specs.Sizes.{totalLen}
-use Rattle.record.specs.Record.{recordBytes}
 use Rattle.record.specs.Good.{goodRecord}
 use Rattle.card.specs.Pick.{All}
-use Rattle.card.specs.Records.{upTo, records, size}
+use Rattle.card.specs.Records.{upTo, records}
 use Rattle.card.specs.Walk.{chain, chainTo}
 use Rattle.card.specs.declared.Chain.{Chain}
 use Rattle.card.specs.declared.Chain.the-variants.{Whole, Broken}
 use Rattle.card.proofs.WalkLaws.{laid-records, laid-chain, laid-one, laid-next, whole-size, whole-next, to-chain}
 use Rattle.weave.specs.declared.Code.{Code}
-use Rattle.weave.specs.declared.Code.the-variants.{Fine, NotNow, Unsound, NoRoom, Bad}
-use Rattle.weave.specs.declared.Spoiled.the-variants.{Overspent, Panicked}
-use Rattle.weave.specs.Codes.{isFine, isBudget, need, first}
+use Rattle.weave.specs.declared.Code.the-variants.{Fine, NotNow, NoRoom, Bad}
+use Rattle.weave.specs.declared.Spoiled.the-variants.{Overspent}
+use Rattle.weave.specs.Codes.{isFine, isBudget, need}
 use Rattle.weave.specs.Sums.{added}
 use Rattle.weave.specs.States.{freshWeave, begunWeave, paid, holding, tabled, spoilt, turned}
-use Rattle.weave.specs.Args.{writeArgs}
 use Rattle.weave.specs.Checks.{budgetCheck}
 use Rattle.weave.proofs.CodeLaws.{need-test, first-right}
 use Rattle.weave.proofs.SumLaws.{added-sum}
@@ -41,7 +38,7 @@ use Rattle.host.specs.declared.Fate.{Fate}
 use Rattle.host.specs.declared.Fate.the-variants.{Refused, Discarded, Running, Committed}
 use Rattle.host.specs.Hosts.{Lent, lentAs, lengthsOf, withWeave, gateCheck, refused, settle}
 use Rattle.host.specs.Begin.{beginCheck, beginAnswer, beginStaging}
-use Rattle.host.specs.Stage.{headerFor, ingressCheck, ingressAnswer, ingressStaging, isPanic, dataLen, panicked, written, writeCheck, writeAnswer, writeStaging}
+use Rattle.host.specs.Stage.{ingressCheck, ingressAnswer, ingressStaging, isPanic, panicked, written, writeCheck, writeAnswer, writeStaging}
 use Rattle.host.specs.Reading.{readSound, readPage, readCheck, readAnswer}
 use Rattle.host.specs.Cursors.{openCheck, openNext, openAnswer, closeCheck, closeNext, closeAnswer}
 use Rattle.host.specs.Paging.{nextSound, nextPage, nextCheck, nextHost, nextAnswer}
@@ -49,13 +46,12 @@ use Rattle.host.specs.Fates.{kept, ends}
 use Rattle.host.specs.Ending.{fateOf, committed, finished, returnAnswer, returnCard, returnStaging}
 use Rattle.host.specs.Mount.{freshHost, noHost, sizesFine, mountCheck, mountedBy, mounted}
 use Rattle.promises.specs.Box.{World, Op, Begin, Ingress, Write, Read, Open, Next, Close, Return, LookUp, Ended, step, isRefused, codeOf, memoryOf, mountedAs, run}
-use Rattle.promises.specs.Refusal.{marked, Unchanged}
-use Rattle.promises.specs.Outcome.{Conditions}
+use Rattle.promises.specs.Refusal.{marked}
 use Rattle.promises.specs.Diary.{Diary, ingressRecord, writtenRecord, spent, held, emptied, ended, noted, entered, diary, AgreesAt, Agrees}
 use Rattle.promises.proofs.RefusalHolds.{refusal}
-use Rattle.promises.proofs.AcceptedLaws.{Lawful, lawful, settle-ok, budget-paid}
+use Rattle.promises.proofs.AcceptedLaws.{lawful, settle-ok, budget-paid}
 use Rattle.promises.proofs.OutcomeHolds.{conditions}
-use Rattle.promises.proofs.StagedLaws.{Stageable, ingress-staged, write-staged, write-budget}
+use Rattle.promises.proofs.StagedLaws.{ingress-staged, write-staged, write-budget}
 
 -- ---- nothing staged
 
@@ -70,14 +66,26 @@ module _ (used next staged count units : ℕ) (trace card staging : List ℕ) (d
   -- begin, discard: nothing is staged, and the card is as it was
   pub agree-empty : (trace′ staging′ : List ℕ) → length trace′ ≡ 32 → AgreesAt used next 0 0 0 trace′ card staging′ (emptied d)
   agree-empty trace′ staging′ t = record {
-    on-card = a .on-card; in-staging = omega arith; traced = t; chained = a .chained; kept = a .kept;
-    carried = no-chain staging′ next; staged = no-records staging′ next; units = refl;
+    on-card = a .on-card;
+    in-staging = omega arith;
+    traced = t;
+    chained = a .chained;
+    kept = a .kept;
+    carried = no-chain staging′ next;
+    staged = no-records staging′ next;
+    units = refl;
   }
 
   -- an accepted module call is paid for
   pub agree-paid : (most charge : ℕ) → units + charge ≤ most → AgreesAt used next staged count (added units charge most) trace card staging (spent d charge)
   agree-paid most charge h = record {
-    on-card = a .on-card; in-staging = a .in-staging; traced = a .traced; chained = a .chained; kept = a .kept; carried = a .carried; staged = a .staged;
+    on-card = a .on-card;
+    in-staging = a .in-staging;
+    traced = a .traced;
+    chained = a .chained;
+    kept = a .kept;
+    carried = a .carried;
+    staged = a .staged;
     units = added-sum units charge most h ∙ ap (λ (n : ℕ). n + charge) (a .units);
   }
 
@@ -85,7 +93,13 @@ module _ (used next staged count units : ℕ) (trace card staging : List ℕ) (d
   pub agree-free : (most : ℕ) → AgreesAt used next staged count (added units 0 most) trace card staging d
   unfolding added
   agree-free most = record {
-    on-card = a .on-card; in-staging = a .in-staging; traced = a .traced; chained = a .chained; kept = a .kept; carried = a .carried; staged = a .staged;
+    on-card = a .on-card;
+    in-staging = a .in-staging;
+    traced = a .traced;
+    chained = a .chained;
+    kept = a .kept;
+    carried = a .carried;
+    staged = a .staged;
     units = go (leb (units + 0) most);
   }
     where
@@ -99,7 +113,9 @@ module _ (used next staged count units : ℕ) (trace card staging : List ℕ) (d
   agree-held r n e room number good = record {
     on-card = a .on-card;
     in-staging = rw (sums, length-splice) room;
-    traced = a .traced; chained = a .chained; kept = a .kept;
+    traced = a .traced;
+    chained = a .chained;
+    kept = a .kept;
     carried = rw (sums, counts, ← e, ← add-assoc) (laid-next staging staged next (next + count) r (rw (← e) at room) (a .carried) good);
     staged = rw (sums, ← e) (laid-one staging staged next (next + count) r (rw (← e) at room) (a .carried) good ∙ ap (λ (l : List (List ℕ)). l ++ (r ∷ [])) (a .staged));
     units = a .units;
@@ -114,18 +130,20 @@ module _ (used next staged count units : ℕ) (trace card staging : List ℕ) (d
   -- commit: the staged bytes are laid behind the used part
   pub agree-kept : (most : ℕ) (trace′ staging′ : List ℕ) → length trace′ ≡ 32 → used + staged ≤ length card → most ≡ length card → next + count ≤ 2 ^ 63
       → AgreesAt (added used staged most) (added next count (2 ^ 63)) 0 0 0 trace′ (splice card used (take staged staging)) staging′
-        (record { kept = d .kept ++ d .staged; staged = []; units = 0 })
+      (record { kept = d .kept ++ d .staged; staged = []; units = 0 })
   agree-kept most trace′ staging′ t fits m number = record {
     on-card = rw (sums, length-splice) fits;
     in-staging = omega arith;
     traced = t;
     chained = rw (sums′, ids) (laid-chain card used 1 next (take staged staging) room (a .chained) (next + count) (a .carried));
     kept =
-      rw sums′
-      (laid-records card used 1 next (take staged staging) room (a .chained)
-      ∙ ap (λ (l : List (List ℕ)). l ++ records (take staged staging) next) (a .kept)
-      ∙ ap (λ (l : List (List ℕ)). d .kept ++ l) (a .staged));
-    carried = no-chain staging′ (added next count (2 ^ 63)); staged = no-records staging′ (added next count (2 ^ 63)); units = refl;
+        rw sums′
+        (laid-records card used 1 next (take staged staging) room (a .chained)
+        ∙ ap (λ (l : List (List ℕ)). l ++ records (take staged staging) next) (a .kept)
+        ∙ ap (λ (l : List (List ℕ)). d .kept ++ l) (a .staged));
+    carried = no-chain staging′ (added next count (2 ^ 63));
+    staged = no-records staging′ (added next count (2 ^ 63));
+    units = refl;
   }
     where
       long : length (take staged staging) ≡ staged
@@ -312,9 +330,14 @@ module _ (l : Lent) (used′ : ℕ) where
       → Agrees (record { host = mountedBy l used′ c .host; lent = l }) opened
   unfolding mountedBy freshHost freshWeave
   chain-agrees (Whole next) q h e = record {
-    on-card = h; in-staging = omega arith; traced = length-replicate {0} {A = ℕ} 32 0;
+    on-card = h;
+    in-staging = omega arith;
+    traced = length-replicate {0} {A = ℕ} 32 0;
     chained = to-chain (take used′ (l .card)) 1 (next .0) (whole-size (take used′ (l .card)) 1 (next .0) q) (whole-next (take used′ (l .card)) 1 (next .0) q);
-    kept = refl; carried = no-chain (l .staging) (next .0); staged = no-records (l .staging) (next .0); units = refl;
+    kept = refl;
+    carried = no-chain (l .staging) (next .0);
+    staged = no-records (l .staging) (next .0);
+    units = refl;
   }
   chain-agrees (Broken at) q h e = absurd (true≢false (sym (ap isFine e)))
 

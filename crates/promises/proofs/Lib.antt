@@ -12,3 +12,4 @@ pub mod PagesHold
 pub mod ShownLaws
 pub mod ReadBackHolds
 pub mod CardHolds
+pub mod ContractsHold

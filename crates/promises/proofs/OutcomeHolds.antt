@@ -2,23 +2,20 @@
 -- Assumes nothing.
 use mathlib.Core.Path.{_≡_, refl, sym, ap, _∙_}
 use mathlib.Core.Bool.{Bool, true, false, cond, true≢false}
-use mathlib.Core.List.{List, [], _∷_}
+use mathlib.Core.List.{[], _∷_}
 use mathlib.Core.Logic.{_↔_, _⊎_, inl, inr}
-use Prim.Native.Nat.{ℕ, zero, suc, _+_, _^_, _≤_, _<_}
+use Prim.Native.Nat.{ℕ, zero, suc, _+_, _^_}
 use native.Mathlib.Omega.{arith}
 use borrow.Author.Tests.{leb-true, le-leb, lt-leb, ltb-false, le-ltb}
-use lib.Dec.{leb, ltb}
+use lib.Dec.{ltb}
 use lib.IntN.{ℤ, pos, negsuc}
-use lib.ListN.{length, take, getD}
+use lib.ListN.{length, getD}
 use Rattle.manifest.specs.Saying.{modulesSaid, manifestOf}
-use Rattle.card.specs.Walk.{chainTo}
 use Rattle.weave.specs.declared.Code.{Code}
-use Rattle.weave.specs.declared.Code.the-variants.{Fine, Denied, NotNow, Unsound, NoRoom, Bad, Budget, BadValue}
-use Rattle.weave.specs.declared.Mark.{Mark}
+use Rattle.weave.specs.declared.Code.the-variants.{Denied, NotNow, Unsound, NoRoom, Bad, Budget, BadValue}
 use Rattle.weave.specs.declared.Spoiled.{Spoiled}
 use Rattle.weave.specs.declared.Spoiled.the-variants.{Not, Overspent, Panicked}
 use Rattle.weave.specs.Codes.{isFine, need, first, spoiledCode, reasonFor, reasonOf}
-use Rattle.weave.specs.Sums.{added}
 use Rattle.weave.proofs.CodeLaws.{need-test, first-left, first-right}
 use Rattle.weave.proofs.SumLaws.{added-sum}
 use Rattle.host.specs.declared.Host.{Host}
@@ -29,7 +26,7 @@ use Rattle.host.specs.Fates.{fateEvents, kept}
 use Rattle.host.specs.Ending.{returnCheck, whyNot, lastCheck, fateOf, returnAnswer}
 use Rattle.promises.specs.Box.{World, Return, Said, Answered, Ended, Part, step}
 use Rattle.promises.specs.Outcome.{Conditions}
-use Rattle.promises.proofs.AcceptedLaws.{Lawful, lawful}
+use Rattle.promises.proofs.AcceptedLaws.{lawful}
 
 -- ---- the choice of a fate, over its tests
 
@@ -103,20 +100,22 @@ module _ (l : Lent) (h : Host) (code : ℤ) where
   unfolding fateOf returnCheck whyNot lastCheck
   conditions e k q =
       let c = chosen (h .weave .count) (h .weave .staged) (lastCheck l h) (whyNot h code) (returnCheck l h) e k
-            (isFine (returnCheck l h)) (isFine (whyNot h code)) (ltb (h .weave .turn) (modulesSaid (manifestOf (l .text)))) (isFine (lastCheck l h)) q in
+      (isFine (returnCheck l h)) (isFine (whyNot h code)) (ltb (h .weave .turn) (modulesSaid (manifestOf (l .text)))) (isFine (lastCheck l h)) q in
       let one = first-left (lentCheck l h) (need (h .weave .running) NotNow) (c .first′) in
       let two = need-test _ NotNow refl (first-right (lentCheck l h) (need (h .weave .running) NotNow) (c .first′)) in
       let law = lawful l h one in
-      let sums = added-sum (h .next .0) (h .weave .count) (2 ^ 63) (law .numbers) in
-      (record {
-        check-1 = one;
-        running = two;
-        unspoiled = unspoilt (h .weave .spoiled .0) (first-left (spoiledCode (h .weave .spoiled)) (reasonOf code) (c .second′));
-        zero-or-one = good-code code (first-right (spoiledCode (h .weave .spoiled)) (reasonOf code) (c .second′));
-        last = omega (arith, law .turn-most two, ltb-false (h .weave .turn) (modulesSaid (manifestOf (l .text))) (c .third′));
-        sound = rw sums at (need-test _ Unsound refl (first-left (need _ Unsound) (need _ NoRoom) (c .fourth′)));
-        fits = leb-true (h .used + h .weave .staged) (length (l .card)) (need-test _ NoRoom refl (first-right (need _ Unsound) (need _ NoRoom) (c .fourth′)));
-      }, (c .events′, c .bytes′))
+      let sums = added-sum (h .next .0) (h .weave .count) (2 ^ 63) (law .numbers) in (
+        record {
+          check-1 = one;
+          running = two;
+          unspoiled = unspoilt (h .weave .spoiled .0) (first-left (spoiledCode (h .weave .spoiled)) (reasonOf code) (c .second′));
+          zero-or-one = good-code code (first-right (spoiledCode (h .weave .spoiled)) (reasonOf code) (c .second′));
+          last = omega (arith, law .turn-most two, ltb-false (h .weave .turn) (modulesSaid (manifestOf (l .text))) (c .third′));
+          sound = rw sums at (need-test _ Unsound refl (first-left (need _ Unsound) (need _ NoRoom) (c .fourth′)));
+          fits = leb-true (h .used + h .weave .staged) (length (l .card)) (need-test _ NoRoom refl (first-right (need _ Unsound) (need _ NoRoom) (c .fourth′)));
+        },
+        (c .events′, c .bytes′),
+      )
 
   pub commits : Conditions l h code → fateOf l h code ≡ Committed (h .weave .count) (h .weave .staged)
   unfolding fateOf returnCheck whyNot lastCheck first need

@@ -1,45 +1,40 @@
 -- Promise 3, as it was given: from any box that a mount and any calls lead to, for a cursor that an open answers, through any calls of the turn.
 -- Assumes nothing.
-use mathlib.Core.Path.{_≡_, refl, sym, ap, subst, _∙_}
-use mathlib.Core.Bool.{Bool, true, false, not, cond, true≢false}
+use mathlib.Core.Path.{_≡_, refl, sym, ap, _∙_}
+use mathlib.Core.Bool.{true, false, true≢false}
 use mathlib.Core.List.{List, [], _∷_, _++_, append-assoc}
 use mathlib.Core.Logic.{_↔_}
-use Prim.Native.Nat.{ℕ, zero, suc, _+_, _≤_, _<_}
+use Prim.Native.Nat.{ℕ, suc, _+_, _≤_, _<_}
 use native.Mathlib.Omega.{arith}
 use borrow.Author.Tests.{eq-eqb, eqb-true, ltb-true, leb-true, leb-false}
 use lib.Dec.{leb, ltb}
-use lib.IntN.{ℤ}
 use lib.ListN.{length, take, getD, set, length-append}
 use Rattle.le.proofs.TestLaws.{and-left, and-right, Tested, passes, fails, tested}
 use Rattle.manifest.specs.Saying.{mayRead}
-use Rattle.record.specs.Good.{goodRecord}
 use Rattle.record.proofs.GoodLaws.{good-long}
-use Rattle.card.specs.Pick.{All, only}
+use Rattle.card.specs.Pick.{All}
 use Rattle.card.specs.Records.{records, size}
 use Rattle.card.specs.Listing.{listOf, fit, pageOf}
 use Rattle.card.specs.declared.Cursor.{Cursor}
-use Rattle.card.specs.declared.Page.{Page}
-use Rattle.card.specs.declared.Page.the-variants.{End, Short, Bytes}
 use Rattle.card.proofs.RecordsLaws.{records-good}
 use Rattle.card.proofs.ListingLaws.{listed-has}
-use Rattle.weave.specs.declared.Code.the-variants.{Fine, NoRoom, Bad}
+use Rattle.weave.specs.declared.Code.the-variants.{Fine}
 use Rattle.weave.specs.declared.Slot.{Slot}
-use Rattle.weave.specs.Codes.{isFine, need, first}
+use Rattle.weave.specs.Codes.{isFine}
 use Rattle.weave.specs.Sums.{added}
 use Rattle.weave.specs.States.{paid, tabled}
 use Rattle.weave.specs.Args.{openArgs, nextArgs}
 use Rattle.weave.specs.Checks.{slotFine, budgetCheck}
 use Rattle.weave.specs.Table.{freeSlot, hasHandle, placeOf, slotOf}
-use Rattle.weave.proofs.CodeLaws.{need-test, first-left, first-right}
+use Rattle.weave.proofs.CodeLaws.{first-left, first-right}
 use Rattle.weave.proofs.SumLaws.{added-sum}
 use Rattle.takes.specs.Opening.{opening}
 use Rattle.takes.specs.Pages.{pageBytes, pageCode, pageCharge}
-use Rattle.host.specs.declared.Host.{Host}
-use Rattle.host.specs.Hosts.{Lent, withWeave, gateCheck, refused, settle}
+use Rattle.host.specs.Hosts.{withWeave, gateCheck, settle}
 use Rattle.host.specs.Cursors.{openCheck, openNext, openAnswer}
-use Rattle.host.specs.Paging.{nextSound, cursorOf, nextList, nextPage, nextCheck, nextPart, nextAnswer}
+use Rattle.host.specs.Paging.{nextSound, cursorOf, nextList, nextPage, nextCheck, nextAnswer}
 use Rattle.host.proofs.PagingLaws.{next-sound}
-use Rattle.promises.specs.Box.{World, Op, Begin, Ingress, Write, Read, Open, Next, Close, Return, LookUp, Said, Answered, step, isRefused, run}
+use Rattle.promises.specs.Box.{World, Op, Begin, Ingress, Write, Read, Open, Next, Close, Return, LookUp, Answered, step, isRefused, run}
 use Rattle.promises.specs.Diary.{answerOf}
 use Rattle.promises.specs.Turn.{InTurn, givenBy, handedOver, listLeft, FirstPart, TidyIn, isNextOn, Nexts}
 use Rattle.promises.proofs.AcceptedLaws.{gate-running, settle-ok, open-slot, next-handle}

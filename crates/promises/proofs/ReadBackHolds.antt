@@ -1,44 +1,36 @@
 -- Promise 2: what is written reads back.
 -- Assumes nothing.
-use mathlib.Core.Path.{_≡_, refl, sym, ap, _∙_}
-use mathlib.Core.Bool.{Bool, true, false, _&&_, cond}
+use mathlib.Core.Path.{_≡_, ap, _∙_}
+use mathlib.Core.Bool.{Bool, true, false, cond}
 use mathlib.Core.List.{List, [], _∷_}
-use Prim.Native.Nat.{ℕ, zero, suc, _+_, _-_, _^_, _≤_, _<_}
+use Prim.Native.Nat.{ℕ, suc, _+_, _-_, _^_, _<_}
 use native.Mathlib.Omega.{arith}
 use borrow.Author.Tests.{lt-ltb, le-ltb}
-use lib.Dec.{leb, ltb}
+use lib.Dec.{leb}
 use lib.ListN.{length, take, getD}
 use Rattle.le.specs.Splice.{splice}
 use Rattle.le.proofs.LeLaws.{Bytes}
-use Rattle.le.proofs.TestLaws.{Tested, passes, fails, tested}
-use Rattle.text.specs.Compare.{sameBytes}
-use Rattle.text.specs.Flags.{goodFlags}
-use Rattle.text.specs.Sizes.{totalLen}
-use Rattle.text.proofs.FlagLaws.{flags-most}
 use Rattle.manifest.specs.Saying.{mayRead}
-use Rattle.record.specs.Record.{idOf, topicOf}
-use Rattle.record.specs.Good.{goodRecord}
-use Rattle.record.specs.Shown.{shownFrom, Framed}
+use Rattle.record.specs.Shown.{Framed}
 use Rattle.record.specs.Written.{Written}
 use Rattle.record.proofs.ShownLaws.{good-shown}
-use Rattle.card.specs.Pick.{All, only}
-use Rattle.card.specs.Records.{records, size}
-use Rattle.card.specs.Walk.{lookUp, recordOf}
-use Rattle.card.specs.Listing.{fit, listOf}
+use Rattle.card.specs.Pick.{All}
+use Rattle.card.specs.Records.{records}
+use Rattle.card.specs.Walk.{lookUp}
+use Rattle.card.specs.Listing.{fit}
 use Rattle.card.proofs.RecordsLaws.{records-good}
 use Rattle.card.proofs.WalkLaws.{to-count, recordOf-is}
 use Rattle.card.proofs.ListingLaws.{listed-has}
 use Rattle.card.proofs.PageLaws.{size-fit}
 use Rattle.weave.specs.Codes.{isFine}
-use Rattle.weave.specs.Args.{writeArgs, readArgs, nextArgs}
+use Rattle.weave.specs.Args.{writeArgs, nextArgs}
 use Rattle.takes.specs.Payloads.{payloadBytes}
-use Rattle.host.specs.declared.Host.{Host}
-use Rattle.host.specs.Hosts.{Lent, lentCheck}
+use Rattle.host.specs.Hosts.{lentCheck}
 use Rattle.host.specs.Stage.{headerFor, ingressCheck, ingressAnswer, ingressStaging, isPanic, writtenTopic, writeCheck, writeAnswer, writeStaging}
 use Rattle.host.specs.Paging.{cursorOf, nextList, nextPart, nextCheck, nextAnswer, nextMemory}
 use Rattle.host.specs.Mount.{looked}
 use Rattle.host.proofs.PagingLaws.{next-lies}
-use Rattle.promises.specs.Box.{World, Op, Ingress, Write, Next, LookUp, Part, step, isRefused}
+use Rattle.promises.specs.Box.{World, Ingress, Write, Next, LookUp, Part, step, isRefused}
 use Rattle.promises.specs.Diary.{Diary, ingressRecord, writtenRecord, Agrees}
 use Rattle.promises.specs.ReadBack.{HasPage}
 use Rattle.promises.proofs.AcceptedLaws.{settle-ok}
@@ -51,8 +43,8 @@ use Rattle.promises.proofs.ShownLaws.{has-page}
 pub write-reads-back : (w : World) (m : List ℕ) (at : ℕ) → Bytes m → length (w .host .weave .trace) ≡ 32 → w .host .weave .time .0 < 256 ^ 8
     → isRefused (step w (Write m at) .said) ≡ false → isPanic m at ≡ false
     → (step w (Write m at) .world .lent .staging ≡ splice (w .lent .staging) (w .host .weave .staged) (writtenRecord w m at))
-      × Written (headerFor (w .host) (writeArgs m at .flags) (w .host .weave .turn)) (w .host .weave .trace) (writtenTopic m at) (payloadBytes m (writeArgs m at))
-        (writtenRecord w m at)
+    × Written (headerFor (w .host) (writeArgs m at .flags) (w .host .weave .turn)) (w .host .weave .trace) (writtenTopic m at) (payloadBytes m (writeArgs m at))
+    (writtenRecord w m at)
 unfolding step writeAnswer writeStaging writtenRecord
 write-reads-back w m at b l t e p =
     let c = settle-ok (w .host) (writeCheck (w .lent) (w .host) m at) _ _ e in
@@ -62,7 +54,7 @@ write-reads-back w m at b l t e p =
 pub ingress-reads-back : (w : World) (topic payload : List ℕ) → length (w .host .weave .trace) ≡ 32 → w .host .weave .time .0 < 256 ^ 8
     → isRefused (step w (Ingress topic payload) .said) ≡ false
     → (step w (Ingress topic payload) .world .lent .staging ≡ splice (w .lent .staging) (w .host .weave .staged) (ingressRecord w topic payload))
-      × Written (headerFor (w .host) 1 0) (w .host .weave .trace) topic payload (ingressRecord w topic payload)
+    × Written (headerFor (w .host) 1 0) (w .host .weave .trace) topic payload (ingressRecord w topic payload)
 unfolding step ingressAnswer ingressStaging ingressRecord
 ingress-reads-back w topic payload l t e =
     let c = settle-ok (w .host) (ingressCheck (w .lent) (w .host) topic payload) _ _ e in

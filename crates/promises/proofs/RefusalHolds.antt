@@ -1,7 +1,7 @@
 -- Promise 1, for every box and every call: a refusal changes no lent byte and, but for the spoiled mark, no state.
 -- Assumes nothing.
-use mathlib.Core.Path.{_≡_, refl, sym, ap, _∙_}
-use mathlib.Core.Bool.{Bool, true, false, not, _&&_, cond, true≢false}
+use mathlib.Core.Path.{_≡_, refl, sym, _∙_}
+use mathlib.Core.Bool.{Bool, true, false, not, cond, true≢false}
 use mathlib.Core.List.{List, [], _∷_}
 use Prim.Native.Nat.{ℕ, _+_}
 use native.Mathlib.Omega.{arith}
@@ -19,8 +19,7 @@ use Rattle.card.proofs.PageLaws.{length-shownFrom}
 use Rattle.weave.specs.declared.Code.{Code}
 use Rattle.weave.specs.declared.Code.the-variants.{Fine, Denied, NotNow, Bad}
 use Rattle.weave.specs.declared.Spoiled.the-variants.{Overspent}
-use Rattle.weave.specs.declared.Weave.{Weave}
-use Rattle.weave.specs.Codes.{isFine, isBudget, need, first, firstOf}
+use Rattle.weave.specs.Codes.{isFine, isBudget, need, first}
 use Rattle.weave.specs.States.{spoilt}
 use Rattle.weave.specs.Args.{nextArgs, readArgs}
 use Rattle.weave.proofs.CodeLaws.{first-left}
@@ -28,16 +27,15 @@ use Rattle.takes.specs.Pages.{pageBytes}
 use Rattle.host.specs.declared.Host.{Host}
 use Rattle.host.specs.declared.Fate.{Fate}
 use Rattle.host.specs.declared.Fate.the-variants.{Refused, Discarded, Running, Committed}
-use Rattle.host.specs.Hosts.{Lent, lentAs, withWeave, lentCheck, refused, settle}
+use Rattle.host.specs.Hosts.{Lent, withWeave, lentCheck, refused, settle}
 use Rattle.host.specs.Begin.{beginCheck, beginAnswer, beginStaging}
-use Rattle.host.specs.Stage.{ingressCheck, ingressAnswer, ingressStaging, writeCheck, isPanic, writeAnswer, writeStaging}
+use Rattle.host.specs.Stage.{ingressAnswer, ingressStaging, writeAnswer, writeStaging}
 use Rattle.host.specs.Reading.{readSound, readPage, readCheck, readAnswer, readMemory}
-use Rattle.host.specs.Cursors.{openCheck, openAnswer, closeCheck, closeAnswer}
+use Rattle.host.specs.Cursors.{openAnswer, closeAnswer}
 use Rattle.host.specs.Paging.{nextPage, nextCheck, nextAnswer, nextMemory}
 use Rattle.host.proofs.PagingLaws.{next-sound}
-use Rattle.host.specs.Fates.{ends, kept}
 use Rattle.host.specs.Ending.{returnCheck, whyNot, lastCheck, fateOf, finished, returnAnswer, returnCard, returnStaging}
-use Rattle.promises.specs.Box.{World, Op, Begin, Ingress, Write, Read, Open, Next, Close, Return, LookUp, Said, Answered, Ended, Part, Step, step, isRefused}
+use Rattle.promises.specs.Box.{World, Op, Begin, Ingress, Write, Read, Open, Next, Close, Return, LookUp, Ended, step, isRefused}
 use Rattle.promises.specs.Refusal.{marked, Unchanged, OnlyThere}
 
 -- ---- one place refuses

@@ -10,20 +10,19 @@ use lib.ListN.{length, take, drop, getD}
 use Rattle.le.specs.Le.{leAt, leBytes}
 use Rattle.le.specs.Splice.{part, splice}
 use Rattle.le.proofs.LeLaws.{leAt-in-part, leAt-splice-before}
-use Rattle.le.proofs.SpliceLaws.{take-splice, drop-splice, part-before, part-right, part-left, part-first, part-within}
+use Rattle.le.proofs.SpliceLaws.{take-splice, drop-splice, part-before, part-right, part-first, part-within}
 use Rattle.le.proofs.TestLaws.{Tested, passes, fails, tested}
 use Rattle.text.specs.Flags.{isValue}
-use Rattle.text.specs.Sizes.{up8}
 use Rattle.text.proofs.SizeLaws.{up8-above}
 use Rattle.value.specs.Shown.{pointed, shownAt, shownValue}
 use Rattle.value.proofs.ShownLaws.{length-shownAt, shown-moved, shown-plain}
-use Rattle.record.specs.Record.{idOf, timeOf, flagsOf, agentOf, topicLenOf, dataLenOf, topicOf, payloadAt, payloadOf}
+use Rattle.record.specs.Record.{flagsOf, topicLenOf, dataLenOf, topicOf, payloadAt, payloadOf}
 use Rattle.record.specs.Shown.{shown, shownFrom, Framed}
 use Rattle.record.proofs.ShownLaws.{length-shown}
 use Rattle.card.specs.Pick.{All}
 use Rattle.card.specs.Records.{size}
 use Rattle.card.proofs.PageLaws.{length-shownFrom}
-use Rattle.promises.specs.ReadBack.{payloadAtHand, HandedAs, HasPage}
+use Rattle.promises.specs.ReadBack.{HandedAs, HasPage}
 
 -- a part of bytes that were laid over from k of it on
 part-spliced : (a n : ℕ) (s : List ℕ) (k : ℕ) (ys : List ℕ) → part a n (splice s (a + k) ys) ≡ splice (part a n s) k ys
@@ -120,7 +119,7 @@ all-at P (r ∷ rs) (suc i) a h = all-at P rs i (a .1) (omega arith)
 pub has-page : (m : List ℕ) (at : ℕ) (rs : List (List ℕ)) → All Framed rs → at + size rs ≤ length m → HasPage (splice m at (shownFrom at rs)) at rs
 has-page m at rs fs room = record {
   each = λ i h.
-    rw (part-within m at (shownFrom at rs) (size (take i rs)) (length (getD rs i []))
+      rw (part-within m at (shownFrom at rs) (size (take i rs)) (length (getD rs i []))
       (rw (length-shownFrom at rs) (record-within rs i h)) (rw (length-shownFrom at rs) room) ∙ shown-stands rs at i h)
-    (handed-as (at + size (take i rs)) (getD rs i []) (all-at Framed rs i fs h));
+      (handed-as (at + size (take i rs)) (getD rs i []) (all-at Framed rs i fs h));
 }

@@ -1,47 +1,40 @@
 -- An accepted write or ingress stages exactly 01's record: it has room, it is good, and it carries the staged chain on.
 -- Assumes nothing.
 use mathlib.Core.Path.{_≡_, refl, sym, ap, subst, _∙_}
-use mathlib.Core.Bool.{Bool, true, false, not, _&&_, _||_, cond, true≢false}
-use mathlib.Core.List.{List, [], _∷_, _++_}
-use Prim.Native.Nat.{ℕ, zero, suc, _+_, _/_, _^_, _≤_, _<_}
+use mathlib.Core.Bool.{Bool, true, false, not, cond}
+use mathlib.Core.List.{List}
+use Prim.Native.Nat.{ℕ, _+_, _/_, _^_, _≤_, _<_}
 use native.Mathlib.Omega.{arith}
-use borrow.Author.Tests.{leb-true, le-leb, ne-eqb, eq-eqb}
+use borrow.Author.Tests.{leb-true, le-leb, ne-eqb}
 use lib.Dec.{leb, eqb}
-use lib.ListN.{length, take}
-use Rattle.le.specs.Splice.{part, splice}
+use lib.ListN.{length}
+use Rattle.le.specs.Splice.{part}
 use Rattle.le.proofs.LeLaws.{Bytes}
 use Rattle.le.proofs.TestLaws.{and-left, and-right, and-both}
-use Rattle.text.specs.Compare.{sameBytes}
-use Rattle.text.specs.Words.{panicTopic}
-use Rattle.text.specs.Topic.{goodTopic, cardTopic}
+use Rattle.text.specs.Topic.{cardTopic}
 use Rattle.text.specs.Span.{inside}
 use Rattle.text.specs.Flags.{goodFlags, isValue}
 use Rattle.text.specs.Sizes.{totalLen}
 use Rattle.text.proofs.FlagLaws.{flags-most}
 use Rattle.value.specs.Forms.{payload}
-use Rattle.record.specs.declared.Header.{Header}
 use Rattle.record.specs.Record.{recordBytes}
 use Rattle.record.specs.Good.{goodKind, goodName, goodPayload, goodRecord}
 use Rattle.record.proofs.GoodLaws.{length-record, record-good}
 use Rattle.record.specs.Written.{Written}
 use Rattle.record.proofs.WrittenLaws.{raw-payload, value-payload, written as written-law}
-use Rattle.card.specs.Records.{records}
-use Rattle.card.specs.Walk.{chainTo}
-use Rattle.card.proofs.WalkLaws.{laid-one, laid-next}
-use Rattle.weave.specs.declared.Code.the-variants.{NotNow, NoRoom, Bad}
-use Rattle.weave.specs.Codes.{isFine, need, first}
-use Rattle.weave.specs.Sums.{added}
-use Rattle.weave.specs.Args.{writeArgs, bytesAt, topicFine}
+use Rattle.weave.specs.declared.Code.the-variants.{NoRoom, Bad}
+use Rattle.weave.specs.Codes.{isFine, need}
+use Rattle.weave.specs.Args.{writeArgs, topicFine}
 use Rattle.weave.specs.Checks.{budgetCheck}
 use Rattle.weave.proofs.CodeLaws.{fine-at, need-test, first-right}
 use Rattle.weave.proofs.SumLaws.{added-sum}
-use Rattle.takes.specs.Payloads.{payloadChecked, payloadBytes}
+use Rattle.takes.specs.Payloads.{payloadBytes}
 use Rattle.takes.proofs.PayloadLaws.{payload-long, value-fine}
 use Rattle.host.specs.declared.Host.{Host}
 use Rattle.host.specs.Hosts.{Lent}
 use Rattle.host.specs.Stage.{roomFine, headerFor, ingressChecks, ingressCheck, writtenTopic, dataLen, isPanic, writeCharge, stageCheck, writeChecks, writeCheck}
 use Rattle.host.proofs.StageLaws.{room-fits, room-counted, ingress-room, write-fit, write-sound, write-topic, write-room}
-use Rattle.promises.proofs.AcceptedLaws.{Lawful, lawful, turn-16, gate-lawful, gate-running, budget-paid}
+use Rattle.promises.proofs.AcceptedLaws.{Lawful, turn-16, gate-lawful, gate-running, budget-paid}
 
 -- a record r of n bytes that may be staged: it fits behind what is staged, it is good with the next number, and the counts go up by one and by n
 pub record Stageable (l : Lent) (h : Host) (r : List ℕ) (n : ℕ) : Type 0 where
@@ -70,9 +63,9 @@ module _ (l : Lent) (h : Host) (flags agent : ℕ) (topic take′ : List ℕ) (t
     room = room-fits h _ _ _ room;
     number = room-number h _ _ _ room;
     good =
-      rw (← id-is)
-      (record-good (headerFor h flags agent) (h .weave .trace) topic take′ traced (room-counted h _ _ _ room)
-      (omega (arith, id-is, room-number h _ _ _ room)) kind name stored);
+        rw (← id-is)
+        (record-good (headerFor h flags agent) (h .weave .trace) topic take′ traced (room-counted h _ _ _ room)
+        (omega (arith, id-is, room-number h _ _ _ room)) kind name stored);
   }
 
   -- all that is read back of it. (A virtual time is a number of 64 bits.)
@@ -156,7 +149,7 @@ module _ (l : Lent) (h : Host) (m : List ℕ) (a : ℕ) (traced : length (h .wea
 
   pub write-back : h .weave .time .0 < 256 ^ 8
       → Written (headerFor h (writeArgs m a .flags) (h .weave .turn)) (h .weave .trace) (writtenTopic m a) (payloadBytes m (writeArgs m a))
-        (recordBytes (headerFor h (writeArgs m a .flags) (h .weave .turn)) (h .weave .trace) (writtenTopic m a) (payloadBytes m (writeArgs m a)))
+      (recordBytes (headerFor h (writeArgs m a .flags) (h .weave .turn)) (h .weave .trace) (writtenTopic m a) (payloadBytes m (writeArgs m a)))
   write-back t =
       stored-back l h (writeArgs m a .flags) (h .weave .turn) (writtenTopic m a) (payloadBytes m (writeArgs m a)) traced room kind name stored t
 

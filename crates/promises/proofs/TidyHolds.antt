@@ -1,36 +1,32 @@
 -- Every box that a mount and any calls lead to has a tidy table of cursors.
 -- Assumes nothing.
-use mathlib.Core.Path.{_≡_, refl, sym, ap, _∙_}
-use mathlib.Core.Bool.{Bool, true, false, not, cond, true≢false}
+use mathlib.Core.Path.{_≡_, refl}
+use mathlib.Core.Bool.{Bool, true, false, cond}
 use mathlib.Core.List.{List, [], _∷_}
-use Prim.Native.Nat.{ℕ, _+_, _≤_, _<_}
+use Prim.Native.Nat.{ℕ}
 use native.Mathlib.Omega.{arith}
 use borrow.Author.Tests.{not-false, ltb-true}
 use lib.Dec.{ltb}
-use lib.IntN.{ℤ}
-use lib.ListN.{length, take}
-use Rattle.le.proofs.TestLaws.{and-left, and-right}
+use lib.ListN.{take}
+use Rattle.le.proofs.TestLaws.{and-right}
 use Rattle.card.specs.Walk.{chain}
 use Rattle.card.specs.declared.Chain.{Chain}
 use Rattle.card.specs.declared.Chain.the-variants.{Whole, Broken}
 use Rattle.weave.specs.declared.Code.{Code}
-use Rattle.weave.specs.declared.Code.the-variants.{NoRoom, Bad}
 use Rattle.weave.specs.declared.Spoiled.the-variants.{Overspent}
 use Rattle.weave.specs.declared.Slot.{Slot}
-use Rattle.weave.specs.Codes.{isFine, isBudget, need}
-use Rattle.weave.specs.Sums.{added}
-use Rattle.weave.specs.Table.{freeSlot, hasHandle, placeOf}
+use Rattle.weave.specs.Codes.{isFine, isBudget}
+use Rattle.weave.specs.Table.{hasHandle, placeOf}
 use Rattle.weave.specs.States.{freshWeave, begunWeave, paid, holding, tabled, spoilt, turned}
-use Rattle.weave.specs.Args.{openArgs, nextArgs, closeHandle}
+use Rattle.weave.specs.Args.{nextArgs, closeHandle}
 use Rattle.weave.specs.Checks.{handleFine, slotFine}
-use Rattle.weave.proofs.CodeLaws.{need-test, first-left, first-right}
 use Rattle.weave.proofs.SumLaws.{added-sum}
 use Rattle.takes.specs.Begun.{begun}
 use Rattle.takes.specs.Opening.{opening}
 use Rattle.host.specs.declared.Host.{Host}
 use Rattle.host.specs.declared.Fate.{Fate}
 use Rattle.host.specs.declared.Fate.the-variants.{Refused, Discarded, Running, Committed}
-use Rattle.host.specs.Hosts.{Lent, lentAs, withWeave, gateCheck, refused, settle}
+use Rattle.host.specs.Hosts.{Lent, withWeave, refused, settle}
 use Rattle.host.specs.Begin.{beginCheck, beginAnswer}
 use Rattle.host.specs.Stage.{ingressCheck, ingressAnswer, isPanic, panicked, written, writeCheck, writeAnswer}
 use Rattle.host.specs.Reading.{readCheck, readAnswer}

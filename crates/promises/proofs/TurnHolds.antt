@@ -1,51 +1,42 @@
 -- Promise 3: what one cursor hands over within a turn is a first part of one list, and a next answers 0 exactly when the whole list was out before it.
 -- Assumes nothing.
-use mathlib.Core.Path.{_≡_, refl, sym, ap, subst, _∙_}
-use mathlib.Core.Bool.{Bool, true, false, not, _&&_, cond, true≢false}
+use mathlib.Core.Path.{_≡_, refl, sym, _∙_}
+use mathlib.Core.Bool.{Bool, true, false, not, cond, true≢false}
 use mathlib.Core.List.{List, [], _∷_, _++_, append-assoc}
-use mathlib.Core.Logic.{_↔_}
-use Prim.Native.Nat.{ℕ, zero, suc, _+_, _≤_, _<_}
+use Prim.Native.Nat.{ℕ, _+_, _≤_, _<_}
 use native.Mathlib.Omega.{arith}
-use borrow.Author.Tests.{not-true, not-false, ltb-true, eq-eqb, ne-eqb, eqb-true, eqb-false}
-use lib.Dec.{leb, ltb, eqb}
-use lib.IntN.{ℤ}
-use lib.ListN.{length, take, getD, set, length-append}
+use borrow.Author.Tests.{not-true, not-false, ltb-true, eqb-true, eqb-false}
+use lib.Dec.{ltb, eqb}
+use lib.ListN.{length, getD}
 use Rattle.le.proofs.TestLaws.{and-left, and-right, Tested, passes, fails, tested}
-use Rattle.manifest.specs.Saying.{mayRead}
-use Rattle.card.specs.declared.Cursor.{Cursor}
-use Rattle.card.specs.Pick.{All, only}
-use Rattle.card.specs.Records.{records, size}
-use Rattle.card.specs.Listing.{listOf, fit, pageOf, advance}
+use Rattle.card.specs.Pick.{All}
 use Rattle.weave.specs.declared.Code.{Code}
-use Rattle.weave.specs.declared.Code.the-variants.{Fine, NotNow, NoRoom, Bad, Unsound}
+use Rattle.weave.specs.declared.Code.the-variants.{NotNow}
 use Rattle.weave.specs.declared.Spoiled.the-variants.{Overspent}
 use Rattle.weave.specs.declared.Slot.{Slot}
-use Rattle.weave.specs.Codes.{isFine, isBudget, need, first, firstOf}
+use Rattle.weave.specs.Codes.{isFine, isBudget, need}
 use Rattle.weave.specs.Sums.{added}
-use Rattle.weave.specs.Table.{freeSlot, hasHandle, placeOf, slotOf}
+use Rattle.weave.specs.Table.{freeSlot, hasHandle, placeOf}
 use Rattle.weave.specs.States.{paid, holding, tabled, spoilt}
-use Rattle.weave.specs.Args.{openArgs, nextArgs, closeHandle, recordFine}
-use Rattle.weave.specs.Checks.{handleFine, slotFine, budgetCheck}
-use Rattle.weave.proofs.CodeLaws.{fine-at, need-test, first-left, first-right}
+use Rattle.weave.specs.Args.{nextArgs, closeHandle}
+use Rattle.weave.specs.Checks.{handleFine, slotFine}
+use Rattle.weave.proofs.CodeLaws.{need-test, first-left, first-right}
 use Rattle.weave.proofs.SumLaws.{added-sum}
 use Rattle.takes.specs.Opening.{opening}
-use Rattle.takes.specs.Pages.{pageBytes, pageCode, pageCharge}
 use Rattle.host.specs.declared.Host.{Host}
-use Rattle.host.specs.Hosts.{Lent, lentAs, withWeave, gateCheck, refused, settle}
-use Rattle.host.specs.Begin.{beginCheck, beginAnswer, beginStaging}
-use Rattle.host.specs.Stage.{ingressCheck, ingressAnswer, ingressStaging, isPanic, panicked, written, writeCheck, writeAnswer, writeStaging}
+use Rattle.host.specs.Hosts.{Lent, withWeave, refused, settle}
+use Rattle.host.specs.Begin.{beginCheck, beginAnswer}
+use Rattle.host.specs.Stage.{ingressCheck, ingressAnswer, isPanic, panicked, written, writeCheck, writeAnswer}
 use Rattle.host.specs.Reading.{readCheck, readAnswer}
 use Rattle.host.specs.Cursors.{openCheck, openNext, openAnswer, closeCheck, closeNext, closeAnswer}
-use Rattle.host.specs.Paging.{nextChecks, nextSound, cursorOf, nextList, nextPage, nextCheck, nextPart, nextCursor, nextHost, nextAnswer}
-use Rattle.host.proofs.PagingLaws.{next-sound}
-use Rattle.promises.specs.Box.{World, Op, Begin, Ingress, Write, Read, Open, Next, Close, Return, LookUp, Said, Answered, step, isRefused, codeOf, run}
+use Rattle.host.specs.Paging.{cursorOf, nextList, nextCheck, nextCursor, nextHost, nextAnswer}
+use Rattle.promises.specs.Box.{World, Op, Begin, Ingress, Write, Read, Open, Next, Close, Return, LookUp, step, isRefused, codeOf, run}
 use Rattle.promises.specs.Refusal.{marked}
-use Rattle.promises.specs.Diary.{answerOf}
-use Rattle.promises.specs.Turn.{InTurn, givenBy, handedOver, listLeft, FirstPart, Tidy}
+use Rattle.promises.specs.Turn.{InTurn, givenBy, handedOver}
 use Rattle.promises.proofs.RefusalHolds.{refusal}
 use Rattle.promises.proofs.AcceptedLaws.{settle-ok, open-slot, next-handle, close-handle}
-use Rattle.promises.proofs.SlotLaws.{place-none, place-passes, place-new, got-stored, length-stored}
-use Rattle.promises.proofs.TurnLaws.{other-handle, own-handle, handle-is, free-handle, tidy-none, tidy-free, tidy-moved, tidy-opened, listAt, Left, listing, shut, Followed, append-nil, follow-still, follow-other, follow-own, follow-shut}
+use Rattle.promises.proofs.SlotLaws.{place-passes}
+use Rattle.promises.proofs.TurnLaws.{other-handle, handle-is, free-handle, tidy-free, tidy-moved, tidy-opened, Followed, append-nil, follow-still, follow-other, follow-own, follow-shut}
 
 abbrev pub FollowedIn : World → ℕ → List (List ℕ) → List (List ℕ) → Type 0
 FollowedIn w k whole out =

@@ -1,25 +1,24 @@
 -- One cursor through a turn: what is known of it, and what each kind of change to the table leaves of that.
 -- Assumes nothing.
-use mathlib.Core.Path.{_≡_, refl, sym, ap, subst, _∙_}
-use mathlib.Core.Bool.{Bool, true, false, cond, true≢false}
+use mathlib.Core.Path.{_≡_, refl, sym, ap, _∙_}
+use mathlib.Core.Bool.{Bool, true, false}
 use mathlib.Core.List.{List, [], _∷_, _++_, append-assoc}
-use Prim.Native.Nat.{ℕ, zero, suc, _+_, _≤_, _<_}
+use Prim.Native.Nat.{ℕ, _+_, _≤_, _<_}
 use native.Mathlib.Omega.{arith}
-use borrow.Author.Tests.{eq-eqb, ne-eqb, eqb-true, eqb-false}
-use lib.Dec.{eqb}
+use borrow.Author.Tests.{eq-eqb, ne-eqb, eqb-true}
 use lib.ListN.{length, take, getD, set}
 use Rattle.le.proofs.TestLaws.{Tested, passes, fails, tested}
 use Rattle.manifest.specs.Saying.{mayRead}
 use Rattle.card.specs.declared.Cursor.{Cursor}
 use Rattle.card.specs.Pick.{only}
 use Rattle.card.specs.Records.{records}
-use Rattle.card.specs.Listing.{listOf, fit, unfit, advance}
+use Rattle.card.specs.Listing.{listOf, fit, advance}
 use Rattle.card.proofs.RecordsLaws.{records-rise}
 use Rattle.card.proofs.ListingLaws.{fit-first, fit-lists}
 use Rattle.weave.specs.declared.Slot.{Slot}
 use Rattle.weave.specs.Table.{freeSlot, noSlots, hasHandle, placeOf, slotOf}
-use Rattle.promises.specs.Turn.{Tidy, FirstPart}
-use Rattle.promises.proofs.SlotLaws.{many, many-alike, stored-fewer, stored-same, stored-more, place-none, place-passes, place-kept, got-kept, stored-gone, place-same, place-new, got-stored, length-stored}
+use Rattle.promises.specs.Turn.{Tidy}
+use Rattle.promises.proofs.SlotLaws.{many-alike, stored-fewer, stored-same, stored-more, place-none, place-passes, place-kept, got-kept, stored-gone, place-same, got-stored, length-stored}
 
 -- ---- handles
 
@@ -135,8 +134,8 @@ module _ (running : Bool) (text : List ℕ) (turn used : ℕ) (card : List ℕ) 
   -- it hands over a page, and its cursor moves past just that
   pub follow-own : (cap : ℕ) → placeOf (hasHandle k) slots < length slots
       → Followed running text turn used card
-        (set slots (placeOf (hasHandle k) slots) (record { handle = k; cursor = advance (slotOf slots (placeOf (hasHandle k) slots) .cursor) (fit cap (listAt text turn used card slots k)) }))
-        opened k whole (out ++ fit cap (listAt text turn used card slots k))
+      (set slots (placeOf (hasHandle k) slots) (record { handle = k; cursor = advance (slotOf slots (placeOf (hasHandle k) slots) .cursor) (fit cap (listAt text turn used card slots k)) }))
+      opened k whole (out ++ fit cap (listAt text turn used card slots k))
   unfolding slotOf
   follow-own cap p = record {
     runs = f .runs;

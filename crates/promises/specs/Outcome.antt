@@ -14,7 +14,6 @@ use Rattle.weave.specs.declared.Spoiled.the-variants.{Not}
 use Rattle.weave.specs.Codes.{isFine}
 use Rattle.weave.specs.States.{freshWeave}
 use Rattle.host.specs.declared.Host.{Host}
-use Rattle.host.specs.declared.Fate.{Fate}
 use Rattle.host.specs.declared.Fate.the-variants.{Refused, Discarded, Running, Committed}
 use Rattle.host.specs.Hosts.{Lent, lentCheck}
 use Rattle.promises.specs.Box.{World, Op, Said, Answered, Ended, Part, step}
