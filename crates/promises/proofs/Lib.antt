@@ -13,3 +13,4 @@ pub mod ShownLaws
 pub mod ReadBackHolds
 pub mod CardHolds
 pub mod ContractsHold
+pub mod CommitRuns
