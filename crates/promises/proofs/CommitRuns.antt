@@ -1,16 +1,16 @@
 -- None of the promises holds because nothing happens: on every empty card with room for it, one event is begun, staged and committed.
 -- Assumes nothing.
 use mathlib.Core.Path.{_≡_, refl, sym, ap, _∙_}
-use mathlib.Core.Bool.{Bool, true, false, not, _&&_, _||_, cond}
+use mathlib.Core.Bool.{true, not, _&&_, _||_}
 use mathlib.Core.List.{List, [], _∷_}
 use mathlib.Core.Logic.{inl}
-use Prim.Native.Nat.{ℕ, _+_, _/_, _^_, _≤_}
+use Prim.Native.Nat.{ℕ, _+_, _^_, _≤_}
 use native.Mathlib.Omega.{arith}
 use borrow.Author.Tests.{le-leb, eq-eqb}
-use lib.Dec.{leb, eqb}
+use lib.Dec.{leb}
 use lib.IntN.{pos}
-use lib.ListN.{length, take, length-replicate}
-use Rattle.le.specs.Splice.{splice, zeros}
+use lib.ListN.{length, length-replicate}
+use Rattle.le.specs.Splice.{zeros}
 use Rattle.le.proofs.LeLaws.{Bytes}
 use Rattle.le.proofs.SpliceLaws.{length-splice}
 use Rattle.text.specs.Compare.{sameBytes}
@@ -25,10 +25,8 @@ use Rattle.card.specs.Records.{upTo, records}
 use Rattle.card.specs.Walk.{chain}
 use Rattle.weave.specs.declared.Code.the-variants.{Fine}
 use Rattle.weave.specs.Codes.{isFine, need, first}
-use Rattle.weave.specs.Sums.{added}
 use Rattle.weave.specs.States.{freshWeave, begunWeave, holding}
 use Rattle.weave.specs.Checks.{sameLengths, numbersFine, turnFine, lentFine}
-use Rattle.weave.specs.declared.Lengths.{Lengths}
 use Rattle.weave.proofs.SumLaws.{added-sum}
 use Rattle.takes.specs.Begun.{begun}
 use Rattle.host.specs.declared.Host.{Host}
@@ -39,12 +37,12 @@ use Rattle.host.specs.Stage.{roomFine, ingressChecks, ingressCheck, ingressAnsw
 use Rattle.host.specs.Mount.{freshHost, sizesFine, mountCheck, mountedBy, mounted}
 use Rattle.promises.specs.Box.{World, Op, Begin, Ingress, Return, Ended, step, mountedAs, run}
 use Rattle.promises.specs.Outcome.{Conditions}
-use Rattle.promises.specs.Diary.{diary, Agrees}
+use Rattle.promises.specs.Diary.{diary, firstPage, Agrees}
 use Rattle.promises.proofs.OutcomeHolds.{committed-exactly}
-use Rattle.promises.proofs.DiaryHolds.{opened, life-agrees}
+use Rattle.promises.proofs.DiaryHolds.{life-agrees}
 
 -- `modules`, tab, `1`, line end
-abbrev oneModule : List ℕ
+abbrev pub oneModule : List ℕ
 oneModule = 109 ∷ 111 ∷ 100 ∷ 117 ∷ 108 ∷ 101 ∷ 115 ∷ 9 ∷ 49 ∷ 10 ∷ []
 
 said-good : isGood (manifestOf oneModule) ≡ true
@@ -144,7 +142,7 @@ module _ (n c : ℕ) (n-least : 65536 ≤ n) (n-most : n ≤ 1048576) (c-least :
   unfolding lengthsOf ingressStaging
   lengths-still = rw (ingress-fine, length-splice, long (length (zeros n)))
 
-  agrees : Agrees w₂ (diary (mountedAs l 0) (opened l 0) ops)
+  agrees : Agrees w₂ (diary (mountedAs l 0) (firstPage l 0) ops)
   agrees = rw stages at (life-agrees l 0 ops (no-bytes, (no-bytes, tt)) mount-fine)
 
   meets : Conditions (w₂ .lent) (w₂ .host) (pos 0)

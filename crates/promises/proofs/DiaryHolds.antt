@@ -47,7 +47,7 @@ use Rattle.host.specs.Ending.{fateOf, committed, finished, returnAnswer, return
 use Rattle.host.specs.Mount.{freshHost, noHost, sizesFine, mountCheck, mountedBy, mounted}
 use Rattle.promises.specs.Box.{World, Op, Begin, Ingress, Write, Read, Open, Next, Close, Return, LookUp, Ended, step, isRefused, codeOf, memoryOf, mountedAs, run}
 use Rattle.promises.specs.Refusal.{marked}
-use Rattle.promises.specs.Diary.{Diary, ingressRecord, writtenRecord, spent, held, emptied, ended, noted, entered, diary, AgreesAt, Agrees}
+use Rattle.promises.specs.Diary.{Diary, ingressRecord, writtenRecord, spent, held, emptied, ended, noted, entered, diary, firstPage, AgreesAt, Agrees}
 use Rattle.promises.proofs.RefusalHolds.{refusal}
 use Rattle.promises.proofs.AcceptedLaws.{lawful, settle-ok, budget-paid}
 use Rattle.promises.proofs.OutcomeHolds.{conditions}
@@ -322,12 +322,8 @@ mount-used l used e =
     leb-true used (length (l .card)) (and-left (leb used (length (l .card))) _ (and-right (sizesFine (lengthsOf l)) _ (need-test _ Bad refl e)))
 
 module _ (l : Lent) (used′ : ℕ) where
-  -- the diary's first page: what the card holds
-  abbrev pub opened : Diary
-  opened = record { kept = records (take used′ (l .card)) 1; staged = []; units = 0 }
-
   chain-agrees : (c : Chain) → chain (take used′ (l .card)) 1 ≡ c → used′ ≤ length (l .card) → mountedBy l used′ c .code ≡ Fine
-      → Agrees (record { host = mountedBy l used′ c .host; lent = l }) opened
+      → Agrees (record { host = mountedBy l used′ c .host; lent = l }) (firstPage l used′)
   unfolding mountedBy freshHost freshWeave
   chain-agrees (Whole next) q h e = record {
     on-card = h;
@@ -342,17 +338,17 @@ module _ (l : Lent) (used′ : ℕ) where
   chain-agrees (Broken at) q h e = absurd (true≢false (sym (ap isFine e)))
 
   -- a mount that is not refused agrees
-  pub mount-agrees : mounted l used′ .code ≡ Fine → Agrees (mountedAs l used′) opened
+  pub mount-agrees : mounted l used′ .code ≡ Fine → Agrees (mountedAs l used′) (firstPage l used′)
   unfolding mounted
   mount-agrees e = go (isFine (mountCheck l used′)) refl e
     where
       go : (t : Bool) → isFine (mountCheck l used′) ≡ t
           → (cond t (mountedBy l used′ (chain (take used′ (l .card)) 1)) (record { code = mountCheck l used′; at = 0; host = noHost })) .code ≡ Fine
-          → Agrees (record { host = (cond t (mountedBy l used′ (chain (take used′ (l .card)) 1)) (record { code = mountCheck l used′; at = 0; host = noHost })) .host; lent = l }) opened
+          → Agrees (record { host = (cond t (mountedBy l used′ (chain (take used′ (l .card)) 1)) (record { code = mountCheck l used′; at = 0; host = noHost })) .host; lent = l }) (firstPage l used′)
       go true q e = chain-agrees (chain (take used′ (l .card)) 1) refl (mount-used l used′ q) e
       go false q e = absurd (true≢false (sym (ap isFine e) ∙ q))
 
   -- THE PROMISE over the life of a box: mounted, and asked whatever may be asked, it agrees with the diary
   pub life-agrees : (os : List Op) → All (λ (o : Op). Bytes (memoryOf o)) os → mounted l used′ .code ≡ Fine
-      → Agrees (run (mountedAs l used′) os) (diary (mountedAs l used′) opened os)
-  life-agrees os b e = agrees-run os (mountedAs l used′) opened b (mount-agrees e)
+      → Agrees (run (mountedAs l used′) os) (diary (mountedAs l used′) (firstPage l used′) os)
+  life-agrees os b e = agrees-run os (mountedAs l used′) (firstPage l used′) b (mount-agrees e)

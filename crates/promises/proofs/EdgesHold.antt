@@ -106,7 +106,6 @@ discards : (l : Lent) (h : Host) (code : ℤ) (c : Code) → isFine (returnCheck
 unfolding fateOf whyNot first
 discards l h code c f u e n = rw (f, u, e, n)
 
-
 test : Case → Bool
 test (total t d n) = eqb (totalLen t d) n
 test (stored m p n) = eqb (length (payload m p)) n

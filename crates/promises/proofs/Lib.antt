@@ -14,3 +14,4 @@ pub mod ReadBackHolds
 pub mod CardHolds
 pub mod ContractsHold
 pub mod CommitRuns
+pub mod Promises

@@ -13,6 +13,7 @@ use Rattle.weave.specs.Args.{writeArgs}
 use Rattle.takes.specs.Payloads.{payloadBytes}
 use Rattle.host.specs.declared.Fate.{Fate}
 use Rattle.host.specs.declared.Fate.the-variants.{Refused, Discarded, Running, Committed}
+use Rattle.host.specs.Hosts.{Lent}
 use Rattle.host.specs.Stage.{headerFor, writtenTopic, isPanic}
 use Rattle.promises.specs.Box.{World, Op, Begin, Ingress, Write, Read, Open, Next, Close, Return, LookUp, Said, Answered, Ended, Part, step, isRefused}
 
@@ -83,6 +84,10 @@ entered w d o = cond (isRefused (step w o .said)) d (noted w d o)
 abbrev pub diary : World → Diary → List Op → Diary
 diary w d [] = d
 diary w d (o ∷ os) = diary (step w o .world) (entered w d o) os
+
+-- the diary's first page, at mount: what the card holds
+abbrev pub firstPage : Lent → ℕ → Diary
+firstPage l used = record { kept = records (take used (l .card)) 1; staged = []; units = 0 }
 
 -- ---- the box agrees
 
