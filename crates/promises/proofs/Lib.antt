@@ -13,5 +13,6 @@ pub mod ShownLaws
 pub mod ReadBackHolds
 pub mod CardHolds
 pub mod ContractsHold
+pub mod ListHolds
 pub mod CommitRuns
 pub mod Promises

@@ -17,7 +17,7 @@ use Rattle.card.specs.Records.{records}
 use Rattle.card.specs.Listing.{listed, turn, listOf, Before}
 use Rattle.card.specs.declared.Cursor.{Cursor}
 use Rattle.card.proofs.RecordsLaws.{records-rise}
-use Rattle.card.proofs.ListingLaws.{listed-order, listed-all, listed-every}
+use Rattle.card.proofs.ListingLaws.{listed-order}
 use Rattle.weave.specs.declared.Code.{Code}
 use Rattle.weave.specs.declared.Code.the-variants.{Fine}
 use Rattle.weave.specs.Codes.{isFine}
@@ -36,7 +36,7 @@ use Rattle.promises.specs.Refusal.{Unchanged, OnlyThere}
 use Rattle.promises.specs.Outcome.{Conditions, SameCard, saysCommitted, NoneCommitted, Appended, butFaulted}
 use Rattle.promises.specs.Diary.{Diary, answerOf, ingressRecord, writtenRecord, firstPage, diary, Agrees}
 use Rattle.promises.specs.ReadBack.{HasPage}
-use Rattle.promises.specs.Turn.{InTurn, handedOver, listLeft, FirstPart, Nexts}
+use Rattle.promises.specs.Turn.{InTurn, handedOver, listLeft, FirstPart, Nexts, Allowed}
 use Rattle.promises.proofs.RefusalHolds.{refusal, next-there, read-there}
 use Rattle.promises.proofs.AcceptedLaws.{settle-ok}
 use Rattle.promises.proofs.OutcomeHolds.{committed-exactly}
@@ -45,6 +45,7 @@ use Rattle.promises.proofs.DiaryHolds.{life-agrees}
 use Rattle.promises.proofs.ReadBackHolds.{write-reads-back, ingress-reads-back, kept-found, staged-found, page-stands}
 use Rattle.promises.proofs.TidyHolds.{life-tidy}
 use Rattle.promises.proofs.PagesHold.{open-lists, first-part, end-exactly, drained}
+use Rattle.promises.proofs.ListHolds.{all-allowed, every-allowed, within-limit}
 use Rattle.promises.proofs.CommitRuns.{oneModule, commits-one}
 
 -- ==== 1. "a refusal changes no lent byte and, but for the spoiled mark, no state"
@@ -159,13 +160,17 @@ pub each-once-in-order : (may : List ℕ → Bool) (c : Cursor) (card : List ℕ
 each-once-in-order may c card = listed-order may c (records card 1) (records-rise card 1)
 
 -- none that filter, window and grants do not allow
-pub none-besides : (may : List ℕ → Bool) (c : Cursor) (rs : List (List ℕ)) → All (λ (r : List ℕ). listed may c r ≡ true) (listOf may c rs)
-none-besides = listed-all
+pub none-besides : (may : List ℕ → Bool) (c : Cursor) (rs : List (List ℕ)) → All (Allowed may c) (listOf may c rs)
+none-besides = all-allowed
 
 -- every one that they allow, where the limit does not cut
-pub none-left-out : (may : List ℕ → Bool) (c : Cursor) (rs : List (List ℕ)) (r : List ℕ) → List·Memᴰ r rs → listed may c r ≡ true
+pub none-left-out : (may : List ℕ → Bool) (c : Cursor) (rs : List (List ℕ)) (r : List ℕ) → List·Memᴰ r rs → Allowed may c r
     → length (only (listed may c) (turn (c .desc) rs)) ≤ c .limit → List·Memᴰ r (listOf may c rs)
-none-left-out = listed-every
+none-left-out = every-allowed
+
+-- "cut to the limit"
+pub at-most-the-limit : (may : List ℕ → Bool) (c : Cursor) (rs : List (List ℕ)) → length (listOf may c rs) ≤ c .limit
+at-most-the-limit = within-limit
 
 -- ==== Nothing of this holds because nothing happens
 

@@ -7,7 +7,11 @@ use mathlib.Core.List.{List, [], _∷_, _++_}
 use Prim.Native.Nat.{ℕ, _≤_, _<_}
 use lib.Dec.{eqb}
 use lib.ListN.{length}
+use Rattle.text.specs.Compare.{prefixOf}
+use Rattle.record.specs.Record.{idOf, topicOf}
 use Rattle.card.specs.Pick.{only}
+use Rattle.card.specs.Listing.{filterOf}
+use Rattle.card.specs.declared.Cursor.{Cursor}
 use Rattle.weave.specs.declared.Slot.{Slot}
 use Rattle.weave.specs.Table.{hasHandle}
 use Rattle.weave.specs.Args.{nextArgs}
@@ -76,3 +80,15 @@ TidyIn w = Tidy (w .host .weave .slots) (w .host .weave .opened)
 abbrev pub Nexts : ℕ → World → List Op → Type 0
 Nexts k w [] = Unit {0}
 Nexts k w (o ∷ os) = (isNextOn k o ≡ true) × ((isRefused (step w o .said) ≡ false) × Nexts k (step w o .world) os)
+
+-- ---- "every committed event that filter, window and grants allow"
+
+-- r is allowed, where `may` says which topics the module is granted `in`, by the cursor c
+pub record Allowed (may : List ℕ → Bool) (c : Cursor) (r : List ℕ) : Type 0 where
+  -- "Events without an `in` grant aren't listed"
+  pub granted : may (topicOf r) ≡ true
+  -- "The filter matches every topic that begins with it"
+  pub begins : prefixOf (filterOf c) (topicOf r) ≡ true
+  -- "Window: start ≤ id < end"
+  pub from : c .from .0 ≤ idOf r
+  pub to : idOf r < c .to .0
