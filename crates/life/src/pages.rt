@@ -36,7 +36,7 @@ fn payload(memory: &[u8], flags: usize, p: &[u8]) {
 }
 
 fn header(r: &[u8]) {
-    word(b"  event");
+    word(b"\n  event");
     say::number(word_at(r, 8));
     word(b" flags");
     say::number(half(r, 4) as u64);
@@ -55,10 +55,10 @@ fn event(memory: &[u8], r: &[u8]) -> usize
     header(r);
     say::text(le::cut(r, 128, n));
     payload(memory, half(r, 4), le::cut(r, 128 + (n + 7) / 8 * 8, d));
-    word(b"\n");
     half(r, 0)
 }
 
+// Those of the page of n bytes at `out`; what is said behind them has a line of its own.
 pub(crate) fn events(memory: &[u8], out: usize, n: usize) {
     let page = le::cut(memory, out, n);
     let mut at: usize = 0;
@@ -68,5 +68,8 @@ pub(crate) fn events(memory: &[u8], out: usize, n: usize) {
             return;
         }
         at += size;
+    }
+    if 0 < at {
+        word(b"\n");
     }
 }

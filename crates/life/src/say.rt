@@ -1,5 +1,6 @@
 // What a line is made of.
 use libc::STDOUT_FILENO;
+use value::scalar::Scalar;
 use weave::Code;
 
 pub(crate) fn word(s: &[u8]) {
@@ -22,16 +23,23 @@ pub(crate) fn text(s: &[u8]) {
     }
 }
 
-// A code's number in document 01.
-pub(crate) fn code(c: Code) {
-    match c.number() {
-        -1 => word(b" -1"),
-        -2 => word(b" -2"),
-        -3 => word(b" -3"),
-        -4 => word(b" -4"),
-        -5 => word(b" -5"),
-        -6 => word(b" -6"),
-        -7 => word(b" -7"),
-        _ => word(b" 0"),
+// A code's number in document 01, without its sign.
+pub(crate) fn below_0(c: Code) -> u64 {
+    let mut b = [0u8; 32];
+    value::scalar::put_scalar(&mut b, 0, 0, Scalar::Signed(c.number()));
+    let n = le::read_u64(&b, 8);
+    if n == 0 {
+        return 0;
     }
+    0xFFFF_FFFF_FFFF_FFFF - n + 1
+}
+
+// A code, or the number that is answered where it is fine.
+pub(crate) fn answer(c: Code, n: u64) {
+    if c.fine() {
+        number(n);
+        return;
+    }
+    word(b" -");
+    io::print_decimal(STDOUT_FILENO, below_0(c));
 }

@@ -1,96 +1,173 @@
 // The steps. A line that begins with no step's word is a heading.
+use crate::Lent;
 use crate::calls;
 use crate::hand;
 use crate::lay;
-use crate::life::Life;
-use crate::pages;
 use crate::say::word;
 use crate::show;
+use crate::state;
+use crate::words::lent;
 use crate::words::number;
 use crate::words::which;
+use host::Host;
+use record::EventId;
 use text::lines::field;
 use text::lines::line;
+use weave::Lengths;
 
-// The calls of the host's own, and those that a module makes: `call name address` is one with its arguments where they lie.
+// No box yet.
+fn none() -> Host {
+    let lengths = Lengths {
+        staging: 0,
+        card: 0,
+        manifest: 0,
+    };
+    Host::fresh(lengths, 0, EventId(0))
+}
+
+// What changes no buffer: 0 state, 1 mount, 2 lookup.
+fn looked<'a>(h: Host, k: usize, l: &[u8], staging: &'a [u8], card: &'a [u8], text: &[u8]) -> Host {
+    match k {
+        0 => state::set(h, l),
+        1 => calls::mount(l, staging, card, text),
+        _ => {
+            calls::look_up(h, l, staging, card, text);
+            h
+        }
+    }
+}
+
+// What changes staging or card: 3 begin, 4 return, 5 ingress.
+fn staged(
+    h: Host,
+    k: usize,
+    l: &[u8],
+    memory: &[u8],
+    staging: &mut [u8],
+    card: &mut [u8],
+    text: &[u8],
+) -> Host {
+    match k {
+        3 => calls::begin(h, l, staging, card, text),
+        4 => calls::ending(h, l, staging, card, text),
+        _ => calls::ingress(h, memory, staging, card, text),
+    }
+}
+
+// A module's call: by its name, with the arguments that are laid at 8; or `call name address`.
 fn called(
-    life: Life,
+    h: Host,
+    l: &[u8],
+    memory: &mut [u8],
+    staging: &mut [u8],
+    card: &[u8],
+    text: &[u8],
+) -> Host {
+    let k = lay::call_of(field(l, 0));
+    if k < 6 {
+        return calls::by_module(h, k, memory, staging, card, text, 8);
+    }
+    let named = lay::call_of(field(l, 1));
+    calls::by_module(h, named, memory, staging, card, text, number(l, 2))
+}
+
+fn done(
+    h: Host,
+    l: &[u8],
+    memory: &mut [u8],
+    staging: &mut [u8],
+    card: &mut [u8],
+    text: &[u8],
+) -> Host {
+    let k = which(
+        b"state\tmount\tlookup\tbegin\treturn\tingress\twrite\tvalue\tread\topen\tnext\tclose\tcall",
+        field(l, 0),
+    );
+    if 12 < k {
+        return h;
+    }
+    word(b":");
+    if k < 3 {
+        return looked(h, k, l, staging, card, text);
+    }
+    if k < 6 {
+        return staged(h, k, l, memory, staging, card, text);
+    }
+    called(h, l, memory, staging, card, text)
+}
+
+// A step, and what it has changed.
+fn shown(
+    h: Host,
+    l: &[u8],
+    memory: &mut [u8],
+    staging: &mut [u8],
+    card: &mut [u8],
+    text: &[u8],
+) -> Host {
+    let was = show::sums(memory, staging, card);
+    let after = done(h, l, memory, staging, card, text);
+    show::state(h, after);
+    show::buffers(was, show::sums(memory, staging, card));
+    word(b"\n");
+    after
+}
+
+// A step with as much of each buffer as is lent.
+fn step(
+    h: Host,
+    is: Lent,
     l: &[u8],
     memory: &mut [u8],
     staging: &mut [u8],
     card: &mut [u8],
     manifest: &[u8],
-) -> Life {
-    let w = field(l, 0);
-    let host = which(b"mount\tbegin\treturn\tlookup\tcall", w);
-    if host < 4 {
-        word(b":");
-        return calls::of_host(life, host, l, staging, card, manifest);
-    }
-    if host == 4 {
-        let k = lay::call_of(field(l, 1));
-        word(b":");
-        return calls::call(life, k, memory, staging, card, manifest, number(l, 2));
-    }
-    let k = lay::call_of(w);
-    if k == 6 {
-        word(b":");
-        return calls::ingress(life, memory, staging, card, manifest);
-    }
-    if k < 6 {
-        word(b":");
-        return calls::call(life, k, memory, staging, card, manifest, 8);
-    }
-    life
+) -> Host {
+    let m = lent(is.memory, memory);
+    let s = lent(is.staging, staging);
+    let c = lent(is.card, card);
+    let text = le::front(manifest, is.manifest);
+    shown(
+        h,
+        l,
+        &mut memory[..m],
+        &mut staging[..s],
+        &mut card[..c],
+        text,
+    )
 }
 
-fn done(
-    life: Life,
+// The line, and what it does by hand; how much is lent.
+fn by_hand(
+    is: Lent,
     l: &[u8],
     memory: &mut [u8],
     staging: &mut [u8],
     card: &mut [u8],
     manifest: &mut [u8],
-) -> Life {
-    let k = which(
-        b"box\tmodules\tgrant\tlend\tstate\tpoke\tword\ttext\tlay",
-        field(l, 0),
-    );
-    if k < 9 {
-        return hand::by_hand(life, k, l, memory, staging, card, manifest);
-    }
-    called(life, l, memory, staging, card, manifest)
-}
-
-// A step whose arguments are laid, and what it has changed.
-fn shown(
-    life: Life,
-    l: &[u8],
-    memory: &mut [u8],
-    staging: &mut [u8],
-    card: &mut [u8],
-    manifest: &mut [u8],
-) -> Life {
-    let was = show::sums(life, memory, staging, card);
-    let after = done(life.paged(0, 0), l, memory, staging, card, manifest);
-    show::state(life.host, after.host);
-    show::buffers(was, show::sums(after, memory, staging, card));
-    after
-}
-
-fn step(
-    life: Life,
-    l: &[u8],
-    memory: &mut [u8],
-    staging: &mut [u8],
-    card: &mut [u8],
-    manifest: &mut [u8],
-) -> Life {
+) -> Lent {
     word(l);
-    lay::lay(memory, l);
-    let after = shown(life, l, memory, staging, card, manifest);
-    word(b"\n");
-    pages::events(memory, after.out, after.page);
-    after
+    hand::bytes(l, memory, staging, card, manifest);
+    hand::lengths(is, l, manifest)
+}
+
+// The box, and how much is lent to it.
+struct Life {
+    host: Host,
+    lent: Lent,
+}
+
+fn lived(
+    was: Life,
+    l: &[u8],
+    memory: &mut [u8],
+    staging: &mut [u8],
+    card: &mut [u8],
+    manifest: &mut [u8],
+) -> Life {
+    let lent = by_hand(was.lent, l, memory, staging, card, manifest);
+    let host = step(was.host, lent, l, memory, staging, card, manifest);
+    Life { host, lent }
 }
 
 pub(crate) fn each(
@@ -100,11 +177,18 @@ pub(crate) fn each(
     card: &mut [u8],
     manifest: &mut [u8],
 ) {
-    let mut life = Life::none();
+    let host = none();
+    let lent = Lent {
+        memory: 0,
+        staging: 0,
+        card: 0,
+        manifest: 0,
+    };
+    let mut life = Life { host, lent };
     let mut at: usize = 0;
     while at < text.len() {
         let l = line(text, at);
         at += l.len() + 1;
-        life = step(life, l, memory, staging, card, manifest);
+        life = lived(life, l, memory, staging, card, manifest);
     }
 }

@@ -1,11 +1,9 @@
 // What has changed in the host's state and in the buffers.
-use crate::life::Life;
 use crate::say;
 use crate::say::word;
 use crate::words::sum;
 use host::Host;
 use text::lines::field;
-use weave::Mark;
 use weave::Slot;
 use weave::Weave;
 
@@ -14,15 +12,6 @@ fn flag(b: bool) -> u64 {
         return 1;
     }
     0
-}
-
-// 6 or 1, as in -6 and -1.
-fn mark(m: Mark) -> u64 {
-    match m.code().number() {
-        -6 => 6,
-        -1 => 1,
-        _ => 0,
-    }
 }
 
 fn of_host(h: Host) -> [u64; 6] {
@@ -38,12 +27,14 @@ fn of_host(h: Host) -> [u64; 6] {
     ]
 }
 
+// A spoiled weave shows as 6 or 1, as in -6 and -1.
 fn of_weave(w: Weave) -> [u64; 11] {
     let time = w.time;
     let trace = w.trace;
+    let mark = w.spoiled;
     [
         flag(w.running),
-        mark(w.spoiled),
+        say::below_0(mark.code()),
         w.turn,
         flag(w.late),
         w.staged as u64,
@@ -80,7 +71,7 @@ fn changed(names: &[u8], was: &[u64], is: &[u64]) {
             return;
         }
         if was[i] != is[i] {
-            word(b", ");
+            word(b"  ");
             word(field(names, i));
             say::number(is[i]);
         }
@@ -97,31 +88,24 @@ fn cursors(was: [Slot; 4], is: [Slot; 4]) {
     }
 }
 
-pub(crate) fn state(was: Host, is: Host) {
-    changed(
-        b"faulted\tused\tnext\tstaging length\tcard length\tmanifest length",
-        &of_host(was),
-        &of_host(is),
-    );
-    let w = was.weave;
-    let v = is.weave;
-    changed(
-        b"running\tspoiled\tturn\tlate\tstaged\tcount\tunits\tmost\ttime\ttrace\topened",
-        &of_weave(w),
-        &of_weave(v),
-    );
-    let a = w.slots;
-    let b = v.slots;
+fn weave(was: Weave, is: Weave) {
+    let names = b"running\tspoiled\tturn\tlate\tstaged\tcount\tunits\tmost\ttime\ttrace\topened";
+    changed(names, &of_weave(was), &of_weave(is));
+    let a = was.slots;
+    let b = is.slots;
     cursors(a, b);
 }
 
-// The sums of memory, staging and card, as far as they are lent.
-pub(crate) fn sums(life: Life, memory: &[u8], staging: &[u8], card: &[u8]) -> [u64; 3] {
-    [
-        sum(le::front(memory, life.memory)),
-        sum(le::front(staging, life.staging)),
-        sum(le::front(card, life.card)),
-    ]
+pub(crate) fn state(was: Host, is: Host) {
+    let names = b"faulted\tused\tnext\tstaging length\tcard length\tmanifest length";
+    changed(names, &of_host(was), &of_host(is));
+    let a = was.weave;
+    let b = is.weave;
+    weave(a, b);
+}
+
+pub(crate) fn sums(memory: &[u8], staging: &[u8], card: &[u8]) -> [u64; 3] {
+    [sum(memory), sum(staging), sum(card)]
 }
 
 pub(crate) fn buffers(was: [u64; 3], is: [u64; 3]) {

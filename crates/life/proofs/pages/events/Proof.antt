@@ -7,10 +7,10 @@ use Rattle.life.proofs.pages.events.Statement.{statement}
 use Rattle.life.proofs.pages.events.Tie as tie
 
 abbrev Inv-loop : tie.InvT-loop
-Inv-loop memory out n page at₀ at = at ≤ length page + 4294967295
+Inv-loop memory out n page at₀ t7 at = at ≤ length page + 4294967295
 
 abbrev μ-loop : tie.MeasureT-loop
-μ-loop memory out n page at₀ at = length page + 4294967295 - at
+μ-loop memory out n page at₀ t7 at = length page + 4294967295 - at
 
 cut-requires : tie.Need-cut-requires Inv-loop μ-loop
 cut-requires c κs = search needs
@@ -36,8 +36,17 @@ loop-less c = omega arith
 loop-again : tie.Need-loop-again Inv-loop μ-loop
 loop-again c = omega arith
 
+slice-aggregate-word : tie.Need-slice-aggregate-word Inv-loop μ-loop
+slice-aggregate-word c = search needs
+
+word-requires : tie.Need-word-requires Inv-loop μ-loop
+word-requires c κs = search needs
+
 returns-2 : tie.Need-returns-2 Inv-loop μ-loop
 returns-2 c = search needs
+
+returns-3 : tie.Need-returns-3 Inv-loop μ-loop
+returns-3 c = search needs
 
 pub events-spec : {M : Type 1} → statement M
 events-spec =
@@ -53,4 +62,7 @@ events-spec =
     add-at
     loop-less
     loop-again
-    returns-2)
+    slice-aggregate-word
+    word-requires
+    returns-2
+    returns-3)

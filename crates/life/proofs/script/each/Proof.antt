@@ -8,10 +8,12 @@ use Rattle.life.proofs.script.each.Statement.{statement}
 use Rattle.life.proofs.script.each.Tie as tie
 
 abbrev Inv-loop : tie.InvT-loop
-Inv-loop text memory₀ staging₀ card₀ manifest₀ life₀ at₀ memory staging card manifest life at = (at ≤ length text + 1) × (length memory ≡ length memory₀) × (length staging ≡ length staging₀) × (length card ≡ length card₀) × (length manifest ≡ length manifest₀)
+Inv-loop text memory₀ staging₀ card₀ manifest₀ life₀ at₀ memory staging card manifest life at =
+    (at ≤ length text + 1) × (length memory ≡ length memory₀) × (length staging ≡ length staging₀) × (length card ≡ length card₀) × (length manifest ≡ length manifest₀)
 
 abbrev μ-loop : tie.MeasureT-loop
-μ-loop text memory₀ staging₀ card₀ manifest₀ life₀ at₀ memory staging card manifest life at = length text + 1 - at
+μ-loop text memory₀ staging₀ card₀ manifest₀ life₀ at₀ memory staging card manifest life at =
+    length text + 1 - at
 
 none-requires : tie.Need-none-requires Inv-loop μ-loop
 none-requires c κs = search needs
@@ -28,8 +30,8 @@ add-at c = omega arith
 add-at-2 : tie.Need-add-at-2 Inv-loop μ-loop
 add-at-2 c = omega arith
 
-step-requires : tie.Need-step-requires Inv-loop μ-loop
-step-requires c κs = search needs
+lived-requires : tie.Need-lived-requires Inv-loop μ-loop
+lived-requires c κs = search needs
 
 loop-less : tie.Need-loop-less Inv-loop μ-loop
 loop-less c = omega arith
@@ -63,7 +65,7 @@ each-spec =
     line-requires
     add-at
     add-at-2
-    step-requires
+    lived-requires
     loop-less
     loop-again
     same-length
