@@ -1,4 +1,6 @@
 // The five module calls, and what the host itself does: mount, begin, ingress, return, look-up. Each says what is answered, and gives the next state.
+ghost use mathlib.Core.Path.{_≡_};
+ghost use lib.ListN.{length};
 use crate::lay::DATA;
 use crate::lay::TOPIC;
 use crate::lay::word_at;
@@ -6,62 +8,42 @@ use crate::pages;
 use crate::say;
 use crate::words;
 use crate::words::number;
+use host::Answer;
 use host::Fate;
 use host::Host;
 use record::EventId;
 
-fn write(h: Host, memory: &[u8], staging: &mut [u8], card: &[u8], text: &[u8], at: u64) -> Host {
-    let a = h.write(memory, staging, card, text, at);
-    let c = a.code;
-    say::answer(c, a.value);
-    a.host
-}
-
-fn open(h: Host, memory: &[u8], staging: &[u8], card: &[u8], text: &[u8], at: u64) -> Host {
-    let a = h.open(memory, staging, card, text, at);
-    let c = a.code;
-    say::answer(c, a.value);
-    a.host
-}
-
-fn close(h: Host, memory: &[u8], staging: &[u8], card: &[u8], text: &[u8], at: u64) -> Host {
-    let a = h.close(memory, staging, card, text, at);
-    let c = a.code;
-    say::answer(c, a.value);
-    a.host
-}
-
-// Where the page goes: the word that stands so far behind the record's address.
-fn out_of(memory: &[u8], at: u64, off: usize) -> usize {
+// Where a read (2) or a next (4) puts its page.
+fn out_of(k: usize, memory: &[u8], at: u64) -> usize {
     let a = at as usize;
     if 1048576 < a {
         return 0;
     }
-    if 24 < off {
-        return 0;
+    if k == 2 {
+        return word_at(memory, a + 24) as usize;
     }
-    word_at(memory, a + off) as usize
-}
-
-fn read(h: Host, memory: &mut [u8], staging: &[u8], card: &[u8], text: &[u8], at: u64) -> Host {
-    let out = out_of(memory, at, 24);
-    let a = h.read(memory, staging, card, text, at);
-    let c = a.code;
-    say::answer(c, a.value);
-    pages::events(memory, out, a.value as usize);
-    a.host
-}
-
-fn next(h: Host, memory: &mut [u8], staging: &[u8], card: &[u8], text: &[u8], at: u64) -> Host {
-    let out = out_of(memory, at, 8);
-    let a = h.next(memory, staging, card, text, at);
-    let c = a.code;
-    say::answer(c, a.value);
-    pages::events(memory, out, a.value as usize);
-    a.host
+    word_at(memory, a + 8) as usize
 }
 
 // 0 write, 1 value, 2 read, 3 open, 4 next, 5 close: with its arguments at `at`.
+fn answered(
+    h: Host,
+    k: usize,
+    memory: &mut [u8],
+    staging: &mut [u8],
+    card: &[u8],
+    text: &[u8],
+    at: u64,
+) -> Answer {
+    match k {
+        2 => h.read(memory, staging, card, text, at),
+        3 => h.open(memory, staging, card, text, at),
+        4 => h.next(memory, staging, card, text, at),
+        5 => h.close(memory, staging, card, text, at),
+        _ => h.write(memory, staging, card, text, at),
+    }
+}
+
 pub(crate) fn by_module(
     h: Host,
     k: usize,
@@ -71,13 +53,14 @@ pub(crate) fn by_module(
     text: &[u8],
     at: u64,
 ) -> Host {
-    match k {
-        2 => read(h, memory, staging, card, text, at),
-        3 => open(h, memory, staging, card, text, at),
-        4 => next(h, memory, staging, card, text, at),
-        5 => close(h, memory, staging, card, text, at),
-        _ => write(h, memory, staging, card, text, at),
+    let out = out_of(k, memory, at);
+    let a = answered(h, k, memory, staging, card, text, at);
+    let c = a.code;
+    say::answer(c, a.value);
+    if (k == 2) | (k == 4) {
+        pages::events(memory, out, a.value as usize);
     }
+    a.host
 }
 
 // ingress topic payload: as they lie in memory.
@@ -98,7 +81,7 @@ pub(crate) fn ingress(
 
 // mount used
 pub(crate) fn mount(l: &[u8], staging: &[u8], card: &[u8], text: &[u8]) -> Host {
-    let m = Host::mount(staging, card, text, words::size(l, 1));
+    let m = Host::mount(staging, card, text, number(l, 1) as usize);
     let c = m.code;
     say::answer(c, 0);
     say::word(b" at");
@@ -107,10 +90,17 @@ pub(crate) fn mount(l: &[u8], staging: &[u8], card: &[u8], text: &[u8]) -> Host 
 }
 
 // begin most time [length]: what begin does not use is 0xEE.
-pub(crate) fn begin(h: Host, l: &[u8], staging: &mut [u8], card: &[u8], text: &[u8]) -> Host {
+fn begin_args(l: &[u8]) -> [u8; 136]
+    ensures { λ r. ⌜ 136 ≡ length r ⌝ }
+{
     let mut args = [0xEEu8; 136];
     le::put_u64(&mut args, 24, number(l, 1));
     le::put_u64(&mut args, 48, number(l, 2));
+    args
+}
+
+pub(crate) fn begin(h: Host, l: &[u8], staging: &mut [u8], card: &[u8], text: &[u8]) -> Host {
+    let args = begin_args(l);
     let size = words::number_or(l, 3, 128) as usize;
     let a = h.begin(staging, card, text, le::front(&args, size));
     let c = a.code;

@@ -1,8 +1,6 @@
 // What is done by hand to what is lent: buffers and manifest made, lent lengths, single bytes and texts.
-use crate::Lent;
 use crate::lay;
 use crate::words::number;
-use crate::words::size;
 use crate::words::which;
 use text::lines::field;
 
@@ -31,7 +29,7 @@ fn put_byte(s: &mut [u8], at: usize, b: u64) {
 
 // poke buffer offset byte
 fn poke(l: &[u8], memory: &mut [u8], staging: &mut [u8], card: &mut [u8], manifest: &mut [u8]) {
-    let at = size(l, 2);
+    let at = number(l, 2) as usize;
     let b = number(l, 3);
     match which(b"memory\tstaging\tcard\tmanifest", field(l, 1)) {
         0 => put_byte(memory, at, b),
@@ -56,20 +54,12 @@ pub(crate) fn bytes(
             clear(staging);
             clear(card);
         }
-        2 => lay::put_word(memory, size(l, 1), number(l, 2)),
-        3 => lay::put_text_at(memory, l),
+        2 => lay::put_word(memory, number(l, 1) as usize, number(l, 2)),
+        3 => {
+            lay::put_text(memory, number(l, 1) as usize, field(l, 2));
+        }
         4 => lay::lay(memory, le::tail(l, 4)),
         _ => lay::lay(memory, l),
-    }
-}
-
-// box staging card memory
-fn boxed(was: Lent, l: &[u8]) -> Lent {
-    Lent {
-        memory: size(l, 3),
-        staging: size(l, 1),
-        card: size(l, 2),
-        manifest: was.manifest,
     }
 }
 
@@ -80,27 +70,23 @@ fn told(n: usize, l: &[u8], manifest: &mut [u8]) -> usize {
 }
 
 // lend buffer length
-fn lends(was: Lent, l: &[u8]) -> Lent {
+fn lend(was: [usize; 4], buffer: &[u8], n: usize) -> [usize; 4] {
     let mut is = was;
-    let n = size(l, 2);
-    match which(b"memory\tstaging\tcard\tmanifest", field(l, 1)) {
-        0 => is.memory = n,
-        1 => is.staging = n,
-        2 => is.card = n,
-        _ => is.manifest = n,
+    let k = which(b"memory\tstaging\tcard\tmanifest", buffer);
+    if k < 4 {
+        is[k] = n;
     }
     is
 }
 
-// 0 box, 1 lend, 2 modules, 3 grant: how much is lent from now on.
-pub(crate) fn lengths(was: Lent, l: &[u8], manifest: &mut [u8]) -> Lent {
-    let mut is = was;
+// 0 box, 1 lend, 2 modules, 3 grant: how much of memory, staging, card and manifest is lent from now on.
+pub(crate) fn lengths(was: [usize; 4], l: &[u8], manifest: &mut [u8]) -> [usize; 4] {
+    let n = number(l, 2) as usize;
     match which(b"box\tlend\tmodules\tgrant", field(l, 0)) {
-        0 => return boxed(was, l),
-        1 => return lends(was, l),
-        2 => is.manifest = told(0, l, manifest),
-        3 => is.manifest = told(was.manifest, l, manifest),
-        _ => (),
+        0 => [number(l, 3) as usize, number(l, 1) as usize, n, was[3]],
+        1 => lend(was, field(l, 1), n),
+        2 => [was[0], was[1], was[2], told(0, l, manifest)],
+        3 => [was[0], was[1], was[2], told(was[3], l, manifest)],
+        _ => was,
     }
-    is
 }

@@ -133,8 +133,3 @@ pub(crate) fn lay(m: &mut [u8], l: &[u8]) {
     }
     of_read(m, l, k, n);
 }
-
-// text offset text
-pub(crate) fn put_text_at(m: &mut [u8], l: &[u8]) {
-    put_text(m, number(l, 1) as usize, field(l, 2));
-}

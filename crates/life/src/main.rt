@@ -13,14 +13,6 @@ mod words;
 ghost use mathlib.Core.Path.{_≡_};
 ghost use lib.ListN.{length};
 
-// How much of each buffer is lent to the host.
-pub(crate) struct Lent {
-    pub memory: usize,
-    pub staging: usize,
-    pub card: usize,
-    pub manifest: usize,
-}
-
 // More than a memory or a staging buffer may have.
 fn large() -> [u8; 1048584]
     ensures { λ r. ⌜ 1048584 ≡ length r ⌝ }

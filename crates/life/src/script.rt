@@ -1,5 +1,4 @@
 // The steps. A line that begins with no step's word is a heading.
-use crate::Lent;
 use crate::calls;
 use crate::hand;
 use crate::lay;
@@ -108,7 +107,8 @@ fn shown(
     let was = show::sums(memory, staging, card);
     let after = done(h, l, memory, staging, card, text);
     show::state(h, after);
-    show::buffers(was, show::sums(memory, staging, card));
+    let is = show::sums(memory, staging, card);
+    show::changed(b"memory sum\tstaging sum\tcard sum", &was, &is);
     word(b"\n");
     after
 }
@@ -116,17 +116,17 @@ fn shown(
 // A step with as much of each buffer as is lent.
 fn step(
     h: Host,
-    is: Lent,
+    is: [usize; 4],
     l: &[u8],
     memory: &mut [u8],
     staging: &mut [u8],
     card: &mut [u8],
     manifest: &[u8],
 ) -> Host {
-    let m = lent(is.memory, memory);
-    let s = lent(is.staging, staging);
-    let c = lent(is.card, card);
-    let text = le::front(manifest, is.manifest);
+    let m = lent(is[0], memory);
+    let s = lent(is[1], staging);
+    let c = lent(is[2], card);
+    let text = le::front(manifest, is[3]);
     shown(
         h,
         l,
@@ -139,22 +139,22 @@ fn step(
 
 // The line, and what it does by hand; how much is lent.
 fn by_hand(
-    is: Lent,
+    is: [usize; 4],
     l: &[u8],
     memory: &mut [u8],
     staging: &mut [u8],
     card: &mut [u8],
     manifest: &mut [u8],
-) -> Lent {
+) -> [usize; 4] {
     word(l);
     hand::bytes(l, memory, staging, card, manifest);
     hand::lengths(is, l, manifest)
 }
 
-// The box, and how much is lent to it.
+// The box, and how much of memory, staging, card and manifest is lent to it.
 struct Life {
     host: Host,
-    lent: Lent,
+    lent: [usize; 4],
 }
 
 fn lived(
@@ -165,7 +165,8 @@ fn lived(
     card: &mut [u8],
     manifest: &mut [u8],
 ) -> Life {
-    let lent = by_hand(was.lent, l, memory, staging, card, manifest);
+    let before = was.lent;
+    let lent = by_hand(before, l, memory, staging, card, manifest);
     let host = step(was.host, lent, l, memory, staging, card, manifest);
     Life { host, lent }
 }
@@ -178,12 +179,7 @@ pub(crate) fn each(
     manifest: &mut [u8],
 ) {
     let host = none();
-    let lent = Lent {
-        memory: 0,
-        staging: 0,
-        card: 0,
-        manifest: 0,
-    };
+    let lent = [0usize; 4];
     let mut life = Life { host, lent };
     let mut at: usize = 0;
     while at < text.len() {

@@ -64,7 +64,7 @@ fn of_slot(s: Slot) -> [u64; 7] {
 }
 
 // Each number that has changed, behind its name.
-fn changed(names: &[u8], was: &[u64], is: &[u64]) {
+pub(crate) fn changed(names: &[u8], was: &[u64], is: &[u64]) {
     let mut i = 0;
     while i < was.len() {
         if is.len() <= i {
@@ -106,8 +106,4 @@ pub(crate) fn state(was: Host, is: Host) {
 
 pub(crate) fn sums(memory: &[u8], staging: &[u8], card: &[u8]) -> [u64; 3] {
     [sum(memory), sum(staging), sum(card)]
-}
-
-pub(crate) fn buffers(was: [u64; 3], is: [u64; 3]) {
-    changed(b"memory sum\tstaging sum\tcard sum", &was, &is);
 }

@@ -35,10 +35,6 @@ pub(crate) fn number(l: &[u8], k: usize) -> u64 {
     number_or(l, k, 0)
 }
 
-pub(crate) fn size(l: &[u8], k: usize) -> usize {
-    number(l, k) as usize
-}
-
 // The signed number of 64 bits.
 fn signed(bits: u64) -> i64 {
     let mut b = [0u8; 32];
