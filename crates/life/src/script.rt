@@ -53,21 +53,22 @@ fn staged(
     }
 }
 
-// A module's call: by its name, with the arguments that are laid at 8; or `call name address`.
-fn called(
-    h: Host,
-    l: &[u8],
-    memory: &mut [u8],
-    staging: &mut [u8],
-    card: &[u8],
-    text: &[u8],
-) -> Host {
+// Which call a module makes, and where its arguments lie.
+struct Call {
+    k: usize,
+    at: u64,
+}
+
+// By its name, with the arguments that are laid at 8; or `call name address`.
+fn called(l: &[u8]) -> Call {
     let k = lay::call_of(field(l, 0));
     if k < 6 {
-        return calls::by_module(h, k, memory, staging, card, text, 8);
+        return Call { k, at: 8 };
     }
-    let named = lay::call_of(field(l, 1));
-    calls::by_module(h, named, memory, staging, card, text, number(l, 2))
+    Call {
+        k: lay::call_of(field(l, 1)),
+        at: number(l, 2),
+    }
 }
 
 fn done(
@@ -92,7 +93,8 @@ fn done(
     if k < 6 {
         return staged(h, k, l, memory, staging, card, text);
     }
-    called(h, l, memory, staging, card, text)
+    let c = called(l);
+    calls::by_module(h, c.k, memory, staging, card, text, c.at)
 }
 
 // A step, and what it has changed.
