@@ -8,6 +8,7 @@ pub mod view;
 
 use crate::model::Lent;
 use dice::Dice;
+use std::panic::{catch_unwind, AssertUnwindSafe};
 use twin::{Difference, Tally, Twin};
 
 /// What a run came to.
@@ -37,7 +38,10 @@ pub fn run(seed: u64, calls: u64) -> Run {
     let mut run = Run { calls: 0, lives: 0, tally: Tally::new(), failed: None };
     while run.calls < calls {
         let life = seed.wrapping_add(run.lives);
-        let (twin, end) = live(life, false);
+        let Ok((twin, end)) = catch_unwind(AssertUnwindSafe(|| live(life, false))) else {
+            run.failed = Some((life, Difference("a panic, told above".into())));
+            break;
+        };
         run.calls += twin.calls;
         run.lives += 1;
         for (answer, n) in twin.tally {
