@@ -1,11 +1,12 @@
 -- Look-up as a place: which buffer, from where, how many bytes.
 -- Assumes nothing.
 use mathlib.Core.Bool.{cond}
-use mathlib.Core.List.{List}
+use mathlib.Core.List.{List, []}
 use Prim.Native.Nat.{ℕ}
-use lib.Dec.{ltb}
+use lib.Dec.{ltb, eqb}
 use lib.ListN.{take}
 use Rattle.le.specs.Le.{leAt}
+use Rattle.le.specs.Splice.{part}
 use Rattle.card.specs.declared.Found.{Found}
 use Rattle.card.specs.declared.Found.the-variants.{At, Nothing}
 use Rattle.card.specs.Walk.{found}
@@ -32,3 +33,10 @@ placeOf l h id =
     cond (isFine (lentCheck l h))
     (cond (ltb id (h .next .0)) (placeIn 1 (take (h .used) (l .card)) 1 id) (placeIn 2 (take (h .weave .staged) (l .staging)) (h .next .0) id))
     nowhere
+
+-- what a caller finds there: "that part of the card or of the staging buffer which is the record"
+unfoldable pub bufferOf : ℕ → Lent → List ℕ
+bufferOf b l = cond (eqb b 1) (l .card) (cond (eqb b 2) (l .staging) [])
+
+unfoldable pub shownAt : Lent → Place → List ℕ
+shownAt l p = part (p .at) (p .len) (bufferOf (p .buffer) l)

@@ -2,8 +2,9 @@
 ghost use mathlib.Core.Path.{_≡_};
 ghost use Rattle.weave.specs.Codes.{isFine};
 ghost use Rattle.host.specs.Hosts.{lentAs, lentCheck};
+ghost use Rattle.host.specs.Mount.{looked};
 ghost use Rattle.embed.specs.Crossing.{hostSaid};
-ghost use Rattle.embed.specs.Places.{nowhere, placeIn, placeOf};
+ghost use Rattle.embed.specs.Places.{nowhere, placeIn, placeOf, shownAt};
 use crate::Place;
 use crate::State;
 use crate::hosts::host_said;
@@ -96,7 +97,8 @@ pub extern "C" fn loafheron_look_up(
     manifest: &[u8],
     id: u64,
 ) -> Place
-    ensures { λ r. ⌜ r ≡ placeOf (lentAs (now (staging .entry)) (now (card .entry)) (now («manifest» .entry))) (hostSaid state) id ⌝ }
+    ensures place { λ r. ⌜ r ≡ placeOf (lentAs (now (staging .entry)) (now (card .entry)) (now («manifest» .entry))) (hostSaid state) id ⌝ }
+    ensures bytes { λ r. ⌜ shownAt (lentAs (now (staging .entry)) (now (card .entry)) (now («manifest» .entry))) r ≡ looked (lentAs (now (staging .entry)) (now (card .entry)) (now («manifest» .entry))) (hostSaid state) id ⌝ }
 {
     let h = host_said(state);
     place_of(h, staging, card, manifest, EventId(id))

@@ -1,5 +1,5 @@
 -- `embed::Place::nowhere` meets its contract. Assumes nothing.
-use mathlib.Core.Path.{refl, ap, _∙_}
+use mathlib.Core.Path.{refl}
 use Rattle.embed.specs.Places.{nowhere}
 use Rattle.embed.proofs.Place.nowhere.Statement.{statement}
 use Rattle.embed.proofs.Place.nowhere.Tie as tie

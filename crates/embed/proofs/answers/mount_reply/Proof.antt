@@ -1,8 +1,5 @@
 -- `embed::answers::mount_reply` meets its contract. Assumes nothing.
-use Rattle.embed.proofs.CrossingLaws.{crosses, mark-crosses, need-fine}
-use Rattle.embed.specs.Answers.{mountReply}
-use Rattle.embed.proofs.CrossingLaws.{crosses, need-fine}
-use Rattle.embed.specs.Answers.{mountReply}
+use Rattle.embed.proofs.CrossingLaws.{crosses}
 use Rattle.embed.specs.Answers.{mountReply}
 use borrow.Author.Needs.{needs}
 use Rattle.embed.proofs.answers.mount_reply.Statement.{statement}

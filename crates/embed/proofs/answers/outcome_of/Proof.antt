@@ -1,8 +1,5 @@
 -- `embed::answers::outcome_of` meets its contract. Assumes nothing.
-use Rattle.embed.proofs.CrossingLaws.{crosses, mark-crosses, need-fine}
-use Rattle.embed.specs.Answers.{outcomeOf}
-use Rattle.embed.proofs.CrossingLaws.{crosses, need-fine}
-use Rattle.embed.specs.Answers.{outcomeOf}
+use Rattle.embed.proofs.CrossingLaws.{crosses}
 use Rattle.embed.specs.Answers.{outcomeOf}
 use borrow.Author.Needs.{needs}
 use Rattle.embed.proofs.answers.outcome_of.Statement.{statement}

@@ -1,8 +1,5 @@
 -- `embed::answers::reply` meets its contract. Assumes nothing.
-use Rattle.embed.proofs.CrossingLaws.{crosses, mark-crosses, need-fine}
-use Rattle.embed.specs.Answers.{reply}
-use Rattle.embed.proofs.CrossingLaws.{crosses, need-fine}
-use Rattle.embed.specs.Answers.{reply}
+use Rattle.embed.proofs.CrossingLaws.{crosses}
 use Rattle.embed.specs.Answers.{reply}
 use borrow.Author.Needs.{needs}
 use Rattle.embed.proofs.answers.reply.Statement.{statement}

@@ -1,5 +1,4 @@
 -- `embed::calls::loafheron_close` meets its contract. Assumes nothing.
-use mathlib.Core.Path.{refl, ap, _∙_}
 use borrow.Author.Needs.{needs}
 use Rattle.embed.proofs.calls.loafheron_close.Statement.{statement}
 use Rattle.embed.proofs.calls.loafheron_close.Tie as tie

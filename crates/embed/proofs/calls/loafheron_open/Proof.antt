@@ -1,5 +1,4 @@
 -- `embed::calls::loafheron_open` meets its contract. Assumes nothing.
-use mathlib.Core.Path.{refl, ap, _∙_}
 use borrow.Author.Needs.{needs}
 use Rattle.embed.proofs.calls.loafheron_open.Statement.{statement}
 use Rattle.embed.proofs.calls.loafheron_open.Tie as tie

@@ -1,5 +1,5 @@
 -- `embed::calls::loafheron_write` meets its contract. Assumes nothing.
-use mathlib.Core.Path.{refl, ap, _∙_}
+use mathlib.Core.Path.{_∙_}
 use borrow.Author.Needs.{needs}
 use Rattle.embed.proofs.calls.loafheron_write.Statement.{statement}
 use Rattle.embed.proofs.calls.loafheron_write.Tie as tie

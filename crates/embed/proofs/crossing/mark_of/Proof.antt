@@ -1,13 +1,8 @@
 -- `embed::crossing::mark_of` meets its contract. Assumes nothing.
-use mathlib.Core.Path.{refl, sym, ap, _∙_}
-use Rattle.embed.proofs.CrossingLaws.{crosses, mark-crosses, need-fine}
+use mathlib.Core.Path.{ap, _∙_}
+use Rattle.embed.proofs.CrossingLaws.{crosses}
 use Rattle.embed.specs.Crossing.{markOf}
 use Rattle.weave.specs.Codes.{number, spoiledCode}
-use mathlib.Core.Path.{refl, sym, ap, _∙_}
-use Rattle.embed.proofs.CrossingLaws.{crosses, need-fine}
-use Rattle.embed.specs.Crossing.{markOf}
-use Rattle.weave.specs.Codes.{number}
-use Rattle.embed.specs.Crossing.{markOf}
 use borrow.Author.Needs.{needs}
 use Rattle.embed.proofs.crossing.mark_of.Statement.{statement}
 use Rattle.embed.proofs.crossing.mark_of.Tie as tie

@@ -1,9 +1,8 @@
 -- `embed::crossing::rooms_of` meets its contract. Assumes nothing.
-use mathlib.Core.Path.{_≡_, refl, sym, ap, _∙_}
-use Rattle.embed.proofs.CrossingLaws.{crosses, mark-crosses, need-fine, four, pastSlots}
+use mathlib.Core.Path.{_≡_}
+use Rattle.embed.proofs.CrossingLaws.{four, pastSlots}
 use lib.ListN.{length}
 use Rattle.embed.specs.Crossing.{roomsOf, roomOf}
-use Rattle.embed.specs.Crossing.{roomsOf}
 use borrow.Author.Needs.{needs}
 use Rattle.embed.proofs.crossing.rooms_of.Statement.{statement}
 use Rattle.embed.proofs.crossing.rooms_of.Tie as tie

@@ -1,5 +1,5 @@
 -- `embed::crossing::said` meets its contract. Assumes nothing.
-use mathlib.Core.Path.{refl, ap, _∙_}
+use mathlib.Core.Path.{refl}
 use Rattle.embed.specs.Crossing.{said}
 use Rattle.embed.proofs.crossing.said.Statement.{statement}
 use Rattle.embed.proofs.crossing.said.Tie as tie

@@ -1,6 +1,6 @@
 -- `embed::crossing::slots_said` meets its contract. Assumes nothing.
-use mathlib.Core.Path.{_≡_, refl, sym, ap, _∙_}
-use Rattle.embed.proofs.CrossingLaws.{crosses, mark-crosses, need-fine, four, pastRooms}
+use mathlib.Core.Path.{_≡_}
+use Rattle.embed.proofs.CrossingLaws.{four, pastRooms}
 use lib.ListN.{length}
 use Rattle.embed.specs.Crossing.{slotsSaid, slotSaid}
 use borrow.Author.Needs.{needs}

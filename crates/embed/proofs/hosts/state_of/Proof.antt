@@ -1,13 +1,5 @@
 -- `embed::hosts::state_of` meets its contract. Assumes nothing.
-use mathlib.Core.Path.{refl, sym, ap, _∙_}
-use Rattle.embed.proofs.CrossingLaws.{crosses, mark-crosses, need-fine}
-use Rattle.embed.specs.Crossing.{stateOf}
-use mathlib.Core.Path.{refl, sym, ap, _∙_}
-use Rattle.embed.proofs.CrossingLaws.{crosses, need-fine}
-use Rattle.embed.specs.Crossing.{stateOf}
-use mathlib.Core.Path.{refl, sym, ap, _∙_}
-use Rattle.embed.proofs.CrossingLaws.{crosses, need-fine}
-use Rattle.embed.specs.Crossing.{stateOf}
+use Rattle.embed.proofs.CrossingLaws.{mark-crosses}
 use Rattle.embed.specs.Crossing.{stateOf}
 use borrow.Author.Needs.{needs}
 use Rattle.embed.proofs.hosts.state_of.Statement.{statement}

@@ -4,25 +4,6 @@ use mir.Syntax.{w64}
 use mir.Val.{toZ, ofZ}
 use mir.Facts.{toZ-ofZ}
 use Rattle.embed.specs.Crossing.{weaveSaid}
-use mathlib.Core.Path.{_≡_}
-use mir.Syntax.{w64}
-use mir.Val.{toZ, ofZ}
-use Rattle.embed.specs.Crossing.{weaveSaid}
-use mir.Syntax.{w64}
-use mir.Facts.{toZ-ofZ}
-use Rattle.embed.specs.Crossing.{weaveSaid}
-use mir.Syntax.{w64}
-use mir.Facts.{toZ-ofZ}
-use Rattle.embed.specs.Crossing.{weaveSaid}
-use mir.Syntax.{w64}
-use mir.Facts.{toZ-ofZ}
-use Rattle.embed.specs.Crossing.{weaveSaid}
-use mir.Syntax.{w64}
-use mir.Facts.{toZ-ofZ}
-use Rattle.embed.specs.Crossing.{weaveSaid}
-use mir.Syntax.{w64}
-use mir.Facts.{toZ-ofZ}
-use Rattle.embed.specs.Crossing.{weaveSaid}
 use borrow.Author.Needs.{needs}
 use Rattle.embed.proofs.hosts.weave_said.Statement.{statement}
 use Rattle.embed.proofs.hosts.weave_said.Tie as tie

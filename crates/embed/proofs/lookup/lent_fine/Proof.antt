@@ -1,12 +1,8 @@
 -- `embed::lookup::lent_fine` meets its contract. Assumes nothing.
-use mathlib.Core.Path.{refl, sym, ap, _∙_}
-use Rattle.embed.proofs.CrossingLaws.{crosses, need-fine}
+use mathlib.Core.Path.{_∙_}
+use Rattle.embed.proofs.CrossingLaws.{need-fine}
 use Rattle.manifest.proofs.PlacesLaws.{held-good, held-modules}
 use Rattle.host.specs.Hosts.{lentCheck, lengthsOf}
-use mathlib.Core.Path.{refl, ap, _∙_}
-use Rattle.manifest.proofs.PlacesLaws.{held-good, held-modules}
-use Rattle.host.specs.Hosts.{lentCheck, lengthsOf}
-use Rattle.weave.specs.Codes.{need}
 use borrow.Author.Needs.{needs}
 use Rattle.embed.proofs.lookup.lent_fine.Statement.{statement}
 use Rattle.embed.proofs.lookup.lent_fine.Tie as tie

@@ -1,10 +1,5 @@
 -- `embed::lookup::place_of` meets its contract. Assumes nothing.
-use mathlib.Core.Path.{_≡_, refl, sym, ap, _∙_}
 use borrow.Author.Tests.{not-true, not-false, lt-ltb, le-ltb}
-use Rattle.embed.specs.Places.{placeOf}
-use mathlib.Core.Path.{refl, sym, ap, _∙_}
-use Rattle.embed.specs.Places.{placeOf}
-use mathlib.Core.Path.{refl, sym, ap, _∙_}
 use Rattle.embed.specs.Places.{placeOf}
 use borrow.Author.Needs.{needs}
 use Rattle.embed.proofs.lookup.place_of.Statement.{statement}

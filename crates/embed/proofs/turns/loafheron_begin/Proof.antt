@@ -1,5 +1,5 @@
 -- `embed::turns::loafheron_begin` meets its contract. Assumes nothing.
-use mathlib.Core.Path.{refl, ap, _∙_}
+use mathlib.Core.Path.{_∙_}
 use borrow.Author.Needs.{needs}
 use Rattle.embed.proofs.turns.loafheron_begin.Statement.{statement}
 use Rattle.embed.proofs.turns.loafheron_begin.Tie as tie

@@ -1,5 +1,5 @@
 -- `embed::turns::loafheron_ingress` meets its contract. Assumes nothing.
-use mathlib.Core.Path.{refl, ap, _∙_}
+use mathlib.Core.Path.{_∙_}
 use borrow.Author.Needs.{needs}
 use Rattle.embed.proofs.turns.loafheron_ingress.Statement.{statement}
 use Rattle.embed.proofs.turns.loafheron_ingress.Tie as tie

@@ -1,5 +1,4 @@
 -- `embed::turns::loafheron_mount` meets its contract. Assumes nothing.
-use mathlib.Core.Path.{refl, ap, _∙_}
 use borrow.Author.Needs.{needs}
 use Rattle.embed.proofs.turns.loafheron_mount.Statement.{statement}
 use Rattle.embed.proofs.turns.loafheron_mount.Tie as tie
