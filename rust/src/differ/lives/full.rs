@@ -24,6 +24,21 @@ pub fn full(d: &mut Dice, twin: &mut Twin) -> Agreed<()> {
     card_to_the_last_byte(d, twin)
 }
 
+/// Memory and staging of 1 MiB, and payloads that go with them.
+pub fn large(d: &mut Dice, twin: &mut Twin) -> Agreed<()> {
+    const MIB: usize = 1_048_576;
+    let h = Habits { payload: 400_000, page: MIB as u64, budget: 1_000_000, ..Habits::new() };
+    set_up(d, twin, &h, 1, 3, 3_000_000)?;
+    twin.lend(Buffer::Memory, vec![b'm'; MIB]);
+    twin.lend(Buffer::Staging, vec![1; MIB]);
+    let used = twin.state.used;
+    twin.call(Call::Mount { used })?;
+    for _ in 0..30 {
+        step(d, twin, &h)?;
+    }
+    Ok(())
+}
+
 /// Staging up to a few bytes, then what fits just and what is 8 too long.
 fn fill(d: &mut Dice, twin: &mut Twin, h: &Habits) -> Agreed<()> {
     while d.below(20) > 0 {

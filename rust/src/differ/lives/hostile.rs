@@ -75,3 +75,26 @@ pub fn states(d: &mut Dice, twin: &mut Twin) -> Agreed<()> {
     }
     Ok(())
 }
+
+/// A box near the last event number, 2^63 - 1, whose card is younger than that.
+pub fn last_numbers(d: &mut Dice, twin: &mut Twin) -> Agreed<()> {
+    let h = Habits { budget: 1_000_000, ..Habits::new() };
+    for _ in 0..12 {
+        set_up(d, twin, &h, 1, 2, 4_000)?;
+        twin.state.next = (1 << 63) - d.below(6);
+        twin.call(Call::Begin { args: damage::weave_args(u64::MAX) })?;
+        for _ in 0..8 {
+            let call = match d.below(4) {
+                0 => asks::ingress(d, &h.topics, 20),
+                1 => asks::write(d, twin, &h.topics, 20, Harm(0)),
+                2 => asks::read(d, twin, &h.topics, 900, Harm(0)),
+                _ => Call::LookUp { id: (1 << 63) - d.below(8) + d.below(4) },
+            };
+            twin.call(call)?;
+        }
+        twin.call(Call::Return { code: 0 })?;
+        twin.call(Call::LookUp { id: 1 << 63 })?;
+        step(d, twin, &h)?;
+    }
+    Ok(())
+}

@@ -15,7 +15,7 @@ use super::twin::{Agreed, Buffer, Call, Said, Twin};
 
 type Life = fn(&mut Dice, &mut Twin) -> Agreed<()>;
 
-pub const KINDS: [(&str, Life); 12] = [
+pub const KINDS: [(&str, Life); 14] = [
     ("an ordinary life", plain::good),
     ("each argument bad alone", plain::one_bad),
     ("two arguments bad at once", plain::two_bad),
@@ -23,8 +23,10 @@ pub const KINDS: [(&str, Life); 12] = [
     ("staged bytes damaged at every offset", damage::staging),
     ("a manifest damaged", damage::manifest),
     ("hostile states", hostile::states),
+    ("the last event numbers", hostile::last_numbers),
     ("budgets at the edge", budget::edges),
     ("staging and card full", full::full),
+    ("buffers of their greatest sizes", full::large),
     ("pages at every capacity", pages::capacities),
     ("hundreds of weaves", long::weaves),
     ("sizes at the edge", sizes::sizes),
