@@ -2,7 +2,7 @@
 use crate::buffers::{card, put, weave_args};
 use crate::clock::row;
 use crate::plain::Plain;
-use loafheron::host::{self, Buffers};
+use loafheron::lent::{self, Buffers};
 use loafheron::raw;
 
 const RECORDS: u64 = 100_000;
@@ -39,18 +39,14 @@ pub fn rows() {
     let mut b = buffers();
     let mut m = memory();
     let used = RECORDS as usize * SIZE;
-    let fresh = host::mount(&b, used as u64).state;
+    let fresh = lent::mount(&b, used as u64).state;
     let plain = Plain::mount(&b, used).unwrap();
-    row(
-        "mount, 100,000 records of 136 bytes",
-        &mut || host::mount(&b, used as u64).state.next,
-        &mut || Plain::mount(&b, used).unwrap().next,
-    );
-    row(
-        "look-up of the last of them",
-        &mut || host::look_up(fresh, &b, RECORDS).at,
-        &mut || plain.look_up(&b, RECORDS).as_ptr() as u64 - b.card.as_ptr() as u64,
-    );
+    row("mount, 100,000 records of 136 bytes", &mut || lent::mount(&b, used as u64).state.next, &mut || {
+        Plain::mount(&b, used).unwrap().next
+    });
+    row("look-up of the last of them", &mut || lent::look_up(fresh, &b, RECORDS).at, &mut || {
+        plain.look_up(&b, RECORDS).as_ptr() as u64 - b.card.as_ptr() as u64
+    });
     next(&mut b, &mut m, fresh, plain);
     weave(&mut b, &m, fresh, plain);
 }
@@ -58,9 +54,9 @@ pub fn rows() {
 /// One page of 2,048 bytes at the list's head: 15 records. (Every next walks the whole used part first, as document 01 asks.)
 fn next(b: &mut Buffers, m: &mut Vec<u8>, fresh: raw::State, plain: Plain) {
     let mut opened = fresh;
-    let a = host::begin(opened, b, &weave_args(u64::MAX));
+    let a = lent::begin(opened, b, &weave_args(u64::MAX));
     settle(&mut opened, a);
-    let a = host::open(opened, m, b, 64);
+    let a = lent::open(opened, m, b, 64);
     settle(&mut opened, a);
     let mut theirs = plain;
     theirs.begin(b, &weave_args(u64::MAX)).unwrap();
@@ -68,7 +64,7 @@ fn next(b: &mut Buffers, m: &mut Vec<u8>, fresh: raw::State, plain: Plain) {
     let mut other = m.clone();
     row(
         "next upward, a page of 2,048 bytes from these",
-        &mut || settle(&mut opened.clone(), host::next(opened, m, b, 128)),
+        &mut || settle(&mut opened.clone(), lent::next(opened, m, b, 128)),
         &mut || theirs.clone().next(&mut other, b, 128).unwrap(),
     );
     assert_eq!(*m, other, "both sides hand over the same page");
@@ -83,13 +79,13 @@ fn weave(b: &mut Buffers, m: &[u8], fresh: raw::State, plain: Plain) {
         &mut || {
             let b = &mut *cell.borrow_mut();
             let mut state = fresh;
-            let a = host::begin(state, b, &args);
+            let a = lent::begin(state, b, &args);
             settle(&mut state, a);
             for _ in 0..10 {
-                let a = host::write(state, m, b, 8);
+                let a = lent::write(state, m, b, 8);
                 settle(&mut state, a);
             }
-            host::module_return(state, b, 0).outcome.bytes
+            lent::module_return(state, b, 0).outcome.bytes
         },
         &mut || {
             let b = &mut *cell.borrow_mut();

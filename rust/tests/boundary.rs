@@ -1,6 +1,6 @@
 //! The archive through its safe owner: document 01's own session, its edges, and arguments that are wrong.
 use loafheron::host::{self, Buffers, Fate, Host};
-use loafheron::raw;
+use loafheron::{lent, raw};
 
 const MANIFEST: &[u8] = b"modules\t1\ngrant\t1\tout\tloop/take\ngrant\t1\tin\tloop/take\n";
 
@@ -87,7 +87,9 @@ fn a_wrong_pointer_or_length_gets_its_code_and_the_box_goes_on() {
     for at in [0, 4, 9, 65_504, 65_536, u64::MAX, u64::MAX - 7, 1 << 63] {
         assert_eq!(host.write(&memory, at), Err(-5), "record at {at}");
     }
-    for (ptr, len) in [(65_529, 8), (0, 1), (65_536, 1), (u64::MAX, 2), (u64::MAX - 7, 8), (8, u64::MAX), (1 << 63, 1 << 63)] {
+    for (ptr, len) in
+        [(65_529, 8), (0, 1), (65_536, 1), (u64::MAX, 2), (u64::MAX - 7, 8), (8, u64::MAX), (1 << 63, 1 << 63)]
+    {
         memory[64..73].copy_from_slice(b"loop/take");
         put(&mut memory, 8, &[64, 9, ptr, len, 1]);
         assert_eq!(host.write(&memory, 8), Err(-5), "payload ({ptr}, {len})");
@@ -114,32 +116,32 @@ fn a_wrong_memory_gets_its_code_and_the_box_goes_on() {
 #[test]
 fn wrong_buffers_get_their_codes() {
     let mut b = buffers();
-    let state = host::mount(&b, 0).state;
+    let state = lent::mount(&b, 0).state;
     b.card.push(0);
-    assert_eq!(host::begin(state, &mut b, &weave(1, 1)).code, -5);
+    assert_eq!(lent::begin(state, &mut b, &weave(1, 1)).code, -5);
     b.card.pop();
     b.manifest[0] = b'M';
-    assert_eq!(host::begin(state, &mut b, &weave(1, 1)).code, -5);
-    assert_eq!(host::mount(&b, 0).code, -5);
+    assert_eq!(lent::begin(state, &mut b, &weave(1, 1)).code, -5);
+    assert_eq!(lent::mount(&b, 0).code, -5);
     b.manifest[0] = b'm';
-    let refused = host::mount(&b, 65_536);
+    let refused = lent::mount(&b, 65_536);
     assert_eq!((refused.code, refused.at, refused.state.card_len), (-3, 0, 0));
-    assert_eq!(host::mount(&b, 65_537).code, -5);
-    assert_eq!(host::begin(state, &mut b, &weave(1, 1)).code, 0);
+    assert_eq!(lent::mount(&b, 65_537).code, -5);
+    assert_eq!(lent::begin(state, &mut b, &weave(1, 1)).code, 0);
 }
 
 /// A flag that is neither 0 nor 1 says yes, a mark that is no reason says panic; the state that comes back has 1 and -1.
 #[test]
 fn numbers_that_no_state_has_are_taken_as_yes() {
     let mut b = buffers();
-    let mut state = host::begin(host::mount(&b, 0).state, &mut b, &weave(9, 9)).state;
+    let mut state = lent::begin(lent::mount(&b, 0).state, &mut b, &weave(9, 9)).state;
     state.running = 77;
     state.spoiled = -4;
-    let a = host::read(state, &mut [], &b, 8);
+    let a = lent::read(state, &mut [], &b, 8);
     assert_eq!((a.code, a.state.running, a.state.spoiled), (-1, 1, -1));
     state.spoiled = 0;
     state.late = u64::MAX;
-    let a = host::ingress(state, &mut b, b"a", b"");
+    let a = lent::ingress(state, &mut b, b"a", b"");
     assert_eq!((a.code, a.state.late), (-2, 1));
 }
 

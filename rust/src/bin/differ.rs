@@ -36,11 +36,17 @@ fn main() -> ExitCode {
     let run = differ::run(seed, calls);
     if let Some((life, difference)) = run.failed {
         println!("{}", differ::told(life, &difference));
+        println!("seed {seed}: {} calls in {} lives before it came apart", run.calls, run.lives);
         return ExitCode::FAILURE;
     }
     for ((call, answer), n) in &run.tally {
         println!("{call:8} {answer:18} {n:9}");
     }
-    println!("seed {seed}: {} calls in {} lives, no difference ({:.1} s)", run.calls, run.lives, start.elapsed().as_secs_f64());
+    println!(
+        "seed {seed}: {} calls in {} lives, no difference ({:.1} s)",
+        run.calls,
+        run.lives,
+        start.elapsed().as_secs_f64()
+    );
     ExitCode::SUCCESS
 }

@@ -89,7 +89,14 @@ fn value(d: &mut Dice, twin: &mut Twin, most: usize) -> u64 {
             let most = *d.pick(&[2, 2, 2, 2, 2, 256]);
             (d.word() << 8) | d.below(most)
         }
-        4 => *d.pick(&[0x7FF8_0000_0000_0000, 0x7FF0_0000_0000_0000, 0xFFF0_0000_0000_0001, 0x7FF0_0000_0000_0001, 0x3FF0_0000_0000_0000, u64::MAX]),
+        4 => *d.pick(&[
+            0x7FF8_0000_0000_0000,
+            0x7FF0_0000_0000_0000,
+            0xFFF0_0000_0000_0001,
+            0x7FF0_0000_0000_0001,
+            0x3FF0_0000_0000_0000,
+            u64::MAX,
+        ]),
         5 | 9 => {
             let n = d.index(most + 1);
             let mut bytes = if kind == 5 { "verse é 𝄞 ".repeat(n / 8).into_bytes() } else { d.bytes(n) };
@@ -99,7 +106,11 @@ fn value(d: &mut Dice, twin: &mut Twin, most: usize) -> u64 {
             let at = put_somewhere(d, twin, &bytes);
             let len = if d.one_in(10) { d.edge(memory(twin)) } else { bytes.len() as u64 };
             cell[16..24].copy_from_slice(&len.to_le_bytes());
-            if d.one_in(12) { d.edge(memory(twin)) } else { at }
+            if d.one_in(12) {
+                d.edge(memory(twin))
+            } else {
+                at
+            }
         }
         _ => d.edge(0),
     };
@@ -151,8 +162,10 @@ pub fn open(d: &mut Dice, twin: &mut Twin, topics: &[Vec<u8>], harm: Harm) -> Ca
         limit = d.below(5);
     }
     let desc = if d.one_in(16) { d.below(256) } else { d.below(2) };
-    let mut record =
-        Record { at: room(d, twin, 48), words: vec![filter_at, filter.len() as u64, from, to, limit, (d.word() << 8) | desc] };
+    let mut record = Record {
+        at: room(d, twin, 48),
+        words: vec![filter_at, filter.len() as u64, from, to, limit, (d.word() << 8) | desc],
+    };
     record.harm(d, memory(twin), harm);
     record.put(twin);
     Call::Open { at: record.at }

@@ -44,7 +44,22 @@ impl Dice {
 
     /// A number at an edge: of `near`, of the widths, or any.
     pub fn edge(&mut self, near: u64) -> u64 {
-        let fixed = [0, 1, 2, 7, 8, 9, 1 << 31, 1 << 32, (1 << 63) - 1, 1 << 63, (1 << 63) + 1, u64::MAX - 7, u64::MAX - 1, u64::MAX];
+        let fixed = [
+            0,
+            1,
+            2,
+            7,
+            8,
+            9,
+            1 << 31,
+            1 << 32,
+            (1 << 63) - 1,
+            1 << 63,
+            (1 << 63) + 1,
+            u64::MAX - 7,
+            u64::MAX - 1,
+            u64::MAX,
+        ];
         match self.below(8) {
             0..=2 => near.wrapping_add(self.below(5)).wrapping_sub(2),
             3 => near.wrapping_add(self.below(33)).wrapping_sub(16),

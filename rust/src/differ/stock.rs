@@ -6,7 +6,10 @@ use crate::model::value::{Kind, Value};
 
 /// Good topics that are near one another: one is the head of the next, or differs in a byte.
 pub fn topics() -> Vec<Vec<u8>> {
-    let mut all: Vec<Vec<u8>> = ["loop/take", "loop/take2", "loop/tak", "loop/", "a", "é/ß/漢/𝄞", "\u{7f}~ !"].iter().map(|s| s.as_bytes().to_vec()).collect();
+    let mut all: Vec<Vec<u8>> = ["loop/take", "loop/take2", "loop/tak", "loop/", "a", "é/ß/漢/𝄞", "\u{7f}~ !"]
+        .iter()
+        .map(|s| s.as_bytes().to_vec())
+        .collect();
     all.push(LOG.to_vec());
     all.push(PANIC.to_vec());
     all.push(b"filament/core/panics".to_vec());
@@ -18,7 +21,18 @@ pub fn topics() -> Vec<Vec<u8>> {
 /// Bytes that are no topic, or just are one.
 pub fn odd_topic(d: &mut Dice) -> Vec<u8> {
     let odd: [&[u8]; 12] = [
-        b"", b"\x1f", b"\x20", b"a\0b", b"\xC0\x80", b"\xED\xA0\x80", b"\xF4\x90\x80\x80", b"\xF4\x8F\xBF\xBF", b"\xE2\x82", b"a\xFF", b"tab\there", b"line\n",
+        b"",
+        b"\x1f",
+        b"\x20",
+        b"a\0b",
+        b"\xC0\x80",
+        b"\xED\xA0\x80",
+        b"\xF4\x90\x80\x80",
+        b"\xF4\x8F\xBF\xBF",
+        b"\xE2\x82",
+        b"a\xFF",
+        b"tab\there",
+        b"line\n",
     ];
     match d.below(4) {
         0 => vec![b'z'; 2_047 + d.index(4)],
@@ -71,8 +85,31 @@ pub fn odd_manifest(d: &mut Dice, good: &[u8]) -> Vec<u8> {
                 text.extend(b"grant\t1\tin\ta\n");
             }
         }
-        6 => text.extend(*d.pick(&[&b"grant\t1\tin\t\n"[..], b"grant\t1\tin\ta", b"\n", b"grant\t0\tin\ta\n", b"grant\t01\tin\ta\n", b"grant\t1\tIn\ta\n", b"grant\t1\tin\ta\t\n"])),
-        7 => text = d.pick(&[&b"modules\t0\n"[..], b"modules\t1\n", b"modules\t16\n", b"modules\t17\n", b"modules\t01\n", b"modules\t1", b"", b"\n", b"modules 1\n", b"modules\t\n"]).to_vec(),
+        6 => text.extend(*d.pick(&[
+            &b"grant\t1\tin\t\n"[..],
+            b"grant\t1\tin\ta",
+            b"\n",
+            b"grant\t0\tin\ta\n",
+            b"grant\t01\tin\ta\n",
+            b"grant\t1\tIn\ta\n",
+            b"grant\t1\tin\ta\t\n",
+        ])),
+        7 => {
+            text = d
+                .pick(&[
+                    &b"modules\t0\n"[..],
+                    b"modules\t1\n",
+                    b"modules\t16\n",
+                    b"modules\t17\n",
+                    b"modules\t01\n",
+                    b"modules\t1",
+                    b"",
+                    b"\n",
+                    b"modules 1\n",
+                    b"modules\t\n",
+                ])
+                .to_vec()
+        }
         _ => {
             // full to the last byte, or one more
             let topic = vec![b'w'; 1_000];
@@ -94,7 +131,14 @@ pub fn value(d: &mut Dice) -> Value {
         1 => Kind::Boolean(d.one_in(2)),
         2 => Kind::Signed(d.edge(0) as i64),
         3 => Kind::Unsigned(d.edge(0)),
-        4 => Kind::Float(*d.pick(&[0, 0x7FF8_0000_0000_0000, 0x7FF0_0000_0000_0000, 0xFFF0_0000_0000_0000, 1, 0x8000_0000_0000_0000])),
+        4 => Kind::Float(*d.pick(&[
+            0,
+            0x7FF8_0000_0000_0000,
+            0x7FF0_0000_0000_0000,
+            0xFFF0_0000_0000_0000,
+            1,
+            0x8000_0000_0000_0000,
+        ])),
         5 => Kind::Text("take é\n𝄞".repeat(n).into_bytes()),
         _ => Kind::Bytes(d.bytes(n)),
     };

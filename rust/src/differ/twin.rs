@@ -1,6 +1,6 @@
 //! The model and the archive side by side: one call goes to both, and everything is compared.
 use super::view;
-use crate::host::{self, Buffers, Fate};
+use crate::lent::{self, Buffers, Fate};
 use crate::model::{self, Lent, Place, State};
 use crate::raw;
 use std::collections::BTreeMap;
@@ -59,7 +59,8 @@ pub struct Twin {
 
 impl Twin {
     pub fn new(lent: Lent) -> Twin {
-        let buffers = Buffers { staging: lent.staging.clone(), card: lent.card.clone(), manifest: lent.manifest.clone() };
+        let buffers =
+            Buffers { staging: lent.staging.clone(), card: lent.card.clone(), manifest: lent.manifest.clone() };
         let memory = lent.memory.clone();
         Twin { state: State::NONE, lent, memory, buffers, calls: 0, tally: Tally::new(), aloud: false }
     }
@@ -151,21 +152,21 @@ impl Twin {
         let (memory, b) = (&mut self.memory, &mut self.buffers);
         let a = match call {
             Call::Mount { used } => {
-                let m = host::mount(b, *used);
+                let m = lent::mount(b, *used);
                 return (Said::Mounted { code: m.code, at: m.at }, m.state);
             }
             Call::Return { code } => {
-                let r = host::module_return(state, b, *code);
-                return (Said::Fate(host::fate(r.outcome)), r.state);
+                let r = lent::module_return(state, b, *code);
+                return (Said::Fate(lent::fate(r.outcome)), r.state);
             }
-            Call::LookUp { id } => return (Said::Place(place(host::look_up(state, b, *id))), state),
-            Call::Begin { args } => host::begin(state, b, args),
-            Call::Ingress { topic, payload } => host::ingress(state, b, topic, payload),
-            Call::Write { at } => host::write(state, memory, b, *at),
-            Call::Read { at } => host::read(state, memory, b, *at),
-            Call::Open { at } => host::open(state, memory, b, *at),
-            Call::Next { at } => host::next(state, memory, b, *at),
-            Call::Close { at } => host::close(state, memory, b, *at),
+            Call::LookUp { id } => return (Said::Place(place(lent::look_up(state, b, *id))), state),
+            Call::Begin { args } => lent::begin(state, b, args),
+            Call::Ingress { topic, payload } => lent::ingress(state, b, topic, payload),
+            Call::Write { at } => lent::write(state, memory, b, *at),
+            Call::Read { at } => lent::read(state, memory, b, *at),
+            Call::Open { at } => lent::open(state, memory, b, *at),
+            Call::Next { at } => lent::next(state, memory, b, *at),
+            Call::Close { at } => lent::close(state, memory, b, *at),
         };
         (Said::Answer { code: a.code, value: a.value }, a.state)
     }
@@ -238,7 +239,8 @@ fn told(call: &Call, memory: &[u8]) -> String {
 
 fn fields(model: &raw::State, ours: &raw::State) -> String {
     let (a, b) = (format!("{model:#?}"), format!("{ours:#?}"));
-    let apart: Vec<String> = a.lines().zip(b.lines()).filter(|(x, y)| x != y).map(|(x, y)| format!("{} / {}", x.trim(), y.trim())).collect();
+    let apart: Vec<String> =
+        a.lines().zip(b.lines()).filter(|(x, y)| x != y).map(|(x, y)| format!("{} / {}", x.trim(), y.trim())).collect();
     format!("the model's state and the host's differ: {}", apart.join(", "))
 }
 
