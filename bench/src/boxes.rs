@@ -1,6 +1,6 @@
 //! The whole host, by the archive of the crate `embed`, against the same operations in plain Rust.
 use crate::buffers::{card, put, weave_args};
-use crate::clock::row;
+use crate::clock::{alone, row};
 use crate::plain::Plain;
 use loafheron::lent::{self, Buffers};
 use loafheron::raw;
@@ -48,6 +48,7 @@ pub fn rows() {
         plain.look_up(&b, RECORDS).as_ptr() as u64 - b.card.as_ptr() as u64
     });
     next(&mut b, &mut m, fresh, plain);
+    downward(&mut b, &mut m, fresh);
     weave(&mut b, &m, fresh, plain);
 }
 
@@ -68,6 +69,27 @@ fn next(b: &mut Buffers, m: &mut Vec<u8>, fresh: raw::State, plain: Plain) {
         &mut || theirs.clone().next(&mut other, b, 128).unwrap(),
     );
     assert_eq!(*m, other, "both sides hand over the same page");
+}
+
+/// The same page from the list's end, and a filter that passes over every record. The plain side has no downward lists.
+fn downward(b: &mut Buffers, m: &mut Vec<u8>, fresh: raw::State) {
+    let mut begun = fresh;
+    let a = lent::begin(begun, b, &weave_args(u64::MAX));
+    settle(&mut begun, a);
+    let mut opened = |filter: u64, desc: u64| {
+        let mut state = begun;
+        put(m, 64, &[520, filter, 0, u64::MAX, u64::MAX, desc]);
+        let a = lent::open(state, m, b, 64);
+        settle(&mut state, a);
+        state
+    };
+    let states = [opened(0, 1), opened(1, 0), opened(1, 1)];
+    let names =
+        ["next downward, a page of 2,048 bytes", "next upward, nothing matches", "next downward, nothing matches"];
+    for (state, name) in states.into_iter().zip(names) {
+        put(m, 128, &[1, 1_024, PAGE]);
+        alone(name, &mut || settle(&mut state.clone(), lent::next(state, m, b, 128)));
+    }
 }
 
 /// A weave: begin, ten writes of 32 bytes, the last return with its commit.

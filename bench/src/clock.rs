@@ -20,6 +20,19 @@ pub fn head() {
     println!("|---|---|---|---|---|---|");
 }
 
+/// The best and the median of one side.
+fn best(mut times: Vec<Duration>) -> (f64, f64) {
+    times.sort();
+    (micros(times[0]), micros(times[times.len() / 2]))
+}
+
+/// A row that has no other side.
+pub fn alone(name: &str, ours: &mut dyn FnMut() -> u64) {
+    ours();
+    let (best, mid) = best((0..11).map(|_| time(ours)).collect());
+    println!("| {name} | {best:.1} | | | {mid:.1} | |");
+}
+
 /// One row of the table. Before it is timed, both sides give the same answer.
 pub fn row(name: &str, ours: &mut dyn FnMut() -> u64, rusts: &mut dyn FnMut() -> u64) {
     assert_eq!(ours(), rusts(), "{name}");
@@ -39,9 +52,6 @@ pub fn row(name: &str, ours: &mut dyn FnMut() -> u64, rusts: &mut dyn FnMut() ->
             b.push(y);
         }
     }
-    a.sort();
-    b.sort();
-    let (best, theirs) = (micros(a[0]), micros(b[0]));
-    let (mid, their_mid) = (micros(a[ROUNDS / 2]), micros(b[ROUNDS / 2]));
+    let ((best, mid), (theirs, their_mid)) = (best(a), best(b));
     println!("| {name} | {best:.1} | {theirs:.1} | {:.2} | {mid:.1} | {their_mid:.1} |", best / theirs);
 }
