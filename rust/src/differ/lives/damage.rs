@@ -24,7 +24,8 @@ pub fn card(d: &mut Dice, twin: &mut Twin) -> Agreed<()> {
     h.topics.push(crate::model::text::PANIC.to_vec());
     set_up(d, twin, &h, 2, 3, 40)?;
     twin.call(Call::Begin { args: weave_args(u64::MAX) })?;
-    let open = open_all(d, twin, d_is_down(twin));
+    let down = d.one_in(2);
+    let open = open_all(d, twin, down);
     twin.call(open)?;
     for at in 0..twin.state.used as usize {
         let was = change(d, twin, Buffer::Card, at);
@@ -44,10 +45,7 @@ pub fn card(d: &mut Dice, twin: &mut Twin) -> Agreed<()> {
     Ok(())
 }
 
-fn d_is_down(twin: &Twin) -> bool {
-    twin.lent.card.len() % 2 == 0
-}
-
+/// Begin's arguments, with so many units to spend.
 pub fn weave_args(res_max: u64) -> Vec<u8> {
     let mut args = vec![7; 128];
     args[24..32].copy_from_slice(&res_max.to_le_bytes());
