@@ -50,6 +50,7 @@ pub fn rows() {
     next(&mut b, &mut m, fresh, plain);
     downward(&mut b, &mut m, fresh);
     weave(&mut b, &m, fresh, plain);
+    long_manifest(&m);
 }
 
 /// One page of 2,048 bytes at the list's head: 15 records. (Every next walks the whole used part first, as document 01 asks.)
@@ -118,5 +119,22 @@ fn weave(b: &mut Buffers, m: &[u8], fresh: raw::State, plain: Plain) {
             }
             state.commit(b).unwrap() as u64
         },
+    );
+}
+
+/// A call that does little else than read the manifest: an open, with 64 grants of topics of 1,000 bytes.
+fn long_manifest(m: &[u8]) {
+    let grant = [b"grant\t1\tin\t", &[b't'; 1_000][..], b"\n"].concat();
+    let manifest = [b"modules\t1\n", &grant.repeat(64)[..]].concat();
+    let mut b = Buffers { staging: vec![0; 65_536], card: Vec::new(), manifest };
+    let mut m = m.to_vec();
+    put(&mut m, 64, &[512, 0, 0, u64::MAX, u64::MAX, 0]);
+    let ours = lent::begin(lent::mount(&b, 0).state, &mut b, &weave_args(u64::MAX)).state;
+    let mut theirs = Plain::mount(&b, 0).unwrap();
+    theirs.begin(&mut b, &weave_args(u64::MAX)).unwrap();
+    row(
+        "tl_open, with a manifest of 64 grants of 1,000 bytes",
+        &mut || settle(&mut ours.clone(), lent::open(ours, &m, &b, 64)),
+        &mut || theirs.clone().open(&m, &b, 64).unwrap(),
     );
 }
