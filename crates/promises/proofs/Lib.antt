@@ -1,1 +1,17 @@
 pub mod EdgesHold
+pub mod RefusalHolds
+pub mod AcceptedLaws
+pub mod OutcomeHolds
+pub mod StagedLaws
+pub mod DiaryHolds
+pub mod SlotLaws
+pub mod TurnLaws
+pub mod TidyHolds
+pub mod TurnHolds
+pub mod PagesHold
+pub mod ShownLaws
+pub mod ReadBackHolds
+pub mod CardHolds
+pub mod ContractsHold
+pub mod CommitRuns
+pub mod Promises
