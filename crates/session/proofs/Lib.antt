@@ -1,0 +1,7 @@
+pub mod SayLaws
+pub mod EventLaws
+pub mod LayLaws
+pub mod FormLaws
+pub mod CallLaws
+pub mod SessionLaws
+pub mod GatherLaws

@@ -1,0 +1,125 @@
+// The calls: what is lent to the host for a line, and what is printed of its answer.
+ghost use mathlib.Core.Path.{_≡_};
+ghost use Prim.Native.Nat.{_≤_};
+ghost use lib.ListN.{length};
+ghost use Rattle.host.specs.Hosts.{lentAs};
+ghost use Rattle.session.specs.Laying.{writeLaid, openLaid, nextLaid};
+ghost use Rattle.session.specs.Calls.{Does, beginAfter, writeAfter, openAfter, nextAfter, returnAfter};
+use crate::events::put_events;
+use crate::laying::begin_args;
+use crate::laying::lay_next;
+use crate::laying::lay_open;
+use crate::laying::lay_write;
+use crate::say::say_answer;
+use crate::say::say_fate;
+use host::Host;
+
+// How many bytes were printed, and the next state.
+pub(crate) struct Told {
+    pub wrote: usize,
+    pub host: Host,
+}
+
+pub(crate) fn begin(
+    host: Host,
+    units: u64,
+    time: u64,
+    memory: &mut [u8; 65536],
+    staging: &mut [u8; 65536],
+    card: &mut [u8; 65536],
+    text: &[u8],
+    out: &mut [u8; 65536],
+) -> Told
+    ensures { λ r. ⌜ Does (beginAfter (lentAs (now (staging .entry)) (now (card .entry)) (now (text .entry))) host (now (memory .entry)) units time) (r .host) (now (memory .exit)) (now (staging .exit)) (now (card .exit)) (now (out .entry)) (now (out .exit)) (r .wrote) ⌝ }
+{
+    let args = begin_args(units, time);
+    let a = host.begin(staging, card, text, &args);
+    let code = a.code;
+    let next = a.host;
+    let wrote = say_answer(out, b"begin", code, a.value);
+    Told { wrote, host: next }
+}
+
+pub(crate) fn write(
+    host: Host,
+    topic: &[u8],
+    payload: &[u8],
+    memory: &mut [u8; 65536],
+    staging: &mut [u8; 65536],
+    card: &mut [u8; 65536],
+    text: &[u8],
+    out: &mut [u8; 65536],
+) -> Told
+    requires { ⌜ length (now topic) ≤ 65535 ⌝ }
+    ensures { λ r. ⌜ Does (writeAfter (lentAs (now (staging .entry)) (now (card .entry)) (now (text .entry))) host (writeLaid (now (memory .entry)) (now (topic .entry)) (now (payload .entry)))) (r .host) (now (memory .exit)) (now (staging .exit)) (now (card .exit)) (now (out .entry)) (now (out .exit)) (r .wrote) ⌝ }
+{
+    lay_write(memory, topic, payload);
+    let a = host.write(memory, staging, card, text, 8);
+    let code = a.code;
+    let next = a.host;
+    let wrote = say_answer(out, b"write", code, a.value);
+    Told { wrote, host: next }
+}
+
+pub(crate) fn open(
+    host: Host,
+    filter: &[u8],
+    from: u64,
+    to: u64,
+    limit: u64,
+    desc: u64,
+    memory: &mut [u8; 65536],
+    staging: &mut [u8; 65536],
+    card: &mut [u8; 65536],
+    text: &[u8],
+    out: &mut [u8; 65536],
+) -> Told
+    ensures { λ r. ⌜ Does (openAfter (lentAs (now (staging .entry)) (now (card .entry)) (now (text .entry))) host (openLaid (now (memory .entry)) (now (filter .entry)) from to limit desc)) (r .host) (now (memory .exit)) (now (staging .exit)) (now (card .exit)) (now (out .entry)) (now (out .exit)) (r .wrote) ⌝ }
+{
+    lay_open(memory, filter, from, to, limit, desc);
+    let a = host.open(memory, staging, card, text, 8);
+    let code = a.code;
+    let next = a.host;
+    let wrote = say_answer(out, b"open", code, a.value);
+    Told { wrote, host: next }
+}
+
+pub(crate) fn next(
+    host: Host,
+    handle: u64,
+    cap: u64,
+    memory: &mut [u8; 65536],
+    staging: &mut [u8; 65536],
+    card: &mut [u8; 65536],
+    text: &[u8],
+    out: &mut [u8; 65536],
+) -> Told
+    ensures { λ r. ⌜ Does (nextAfter (lentAs (now (staging .entry)) (now (card .entry)) (now (text .entry))) host (nextLaid (now (memory .entry)) handle cap)) (r .host) (now (memory .exit)) (now (staging .exit)) (now (card .exit)) (now (out .entry)) (now (out .exit)) (r .wrote) ⌝ }
+{
+    lay_next(memory, handle, cap);
+    let a = host.next(memory, staging, card, text, 8);
+    let code = a.code;
+    let next = a.host;
+    let end = say_answer(out, b"next", code, a.value);
+    let page = le::cut(memory, 8, a.value as usize);
+    let wrote = put_events(page, out, end);
+    Told { wrote, host: next }
+}
+
+pub(crate) fn turn_over(
+    host: Host,
+    code: i64,
+    memory: &mut [u8; 65536],
+    staging: &mut [u8; 65536],
+    card: &mut [u8; 65536],
+    text: &[u8],
+    out: &mut [u8; 65536],
+) -> Told
+    ensures { λ r. ⌜ Does (returnAfter (lentAs (now (staging .entry)) (now (card .entry)) (now (text .entry))) host (now (memory .entry)) code) (r .host) (now (memory .exit)) (now (staging .exit)) (now (card .exit)) (now (out .entry)) (now (out .exit)) (r .wrote) ⌝ }
+{
+    let a = host.module_return(staging, card, text, code);
+    let fate = a.fate;
+    let next = a.host;
+    let wrote = say_fate(out, fate);
+    Told { wrote, host: next }
+}
