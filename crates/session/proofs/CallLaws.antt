@@ -14,12 +14,13 @@ use Rattle.host.specs.Stage.{writeAnswer, writeStaging}
 use Rattle.host.specs.Cursors.{openAnswer}
 use Rattle.host.specs.Paging.{nextAnswer, nextMemory}
 use Rattle.host.specs.Ending.{returnAnswer, returnCard, returnStaging}
-use Rattle.session.specs.Words.{beginWord, writeWord, openWord, nextWord}
-use Rattle.session.specs.Laying.{beginLaid}
-use Rattle.session.specs.Saying.{Put, saidAnswer, saidFate}
-use Rattle.session.specs.Events.{eventLines}
+use Rattle.script.specs.Words.{beginWord, writeWord, openWord, nextWord}
+use Rattle.script.specs.Laying.{beginLaid}
+use Rattle.script.specs.Saying.{Put, saidAnswer}
+use Rattle.session.specs.Fates.{saidFate}
+use Rattle.script.specs.Events.{eventLines}
 use Rattle.session.specs.Calls.{Does, beginAfter, writeAfter, openAfter, nextAfter, returnAfter}
-use Rattle.session.proofs.SayLaws.{put-then}
+use Rattle.script.proofs.SayLaws.{put-then}
 
 pub begin-does : (l : Lent) (h : Host) (m args s o o′ : List ℕ) (a : Answer) (units time n : ℕ) → args ≡ beginLaid units time → a ≡ beginAnswer l h args
     → s ≡ beginStaging l h args → Put o o′ 0 (saidAnswer beginWord (a .code) (a .value)) n → Does (beginAfter l h m units time) (a .host) m s (l .card) o o′ n

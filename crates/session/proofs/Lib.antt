@@ -1,7 +1,3 @@
-pub mod SayLaws
-pub mod EventLaws
-pub mod LayLaws
-pub mod FormLaws
 pub mod CallLaws
 pub mod SessionLaws
-pub mod GatherLaws
+pub mod CutLaws

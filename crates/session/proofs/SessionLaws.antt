@@ -12,12 +12,12 @@ use Rattle.le.proofs.SpliceLaws.{splice-then, set-splice}
 use Rattle.weave.specs.Codes.{isFine}
 use Rattle.host.specs.declared.Host.{Host}
 use Rattle.host.specs.declared.Mounted.{Mounted}
-use Rattle.session.specs.Saying.{Put, saidBad, saidMount}
+use Rattle.script.specs.Saying.{Put, saidBad, saidMount}
 use Rattle.session.specs.Calls.{After, Does}
 use Rattle.session.specs.Sessions.{Buffers, buffersOf, Answers, counted, became, badAnswer, called, mountAnswer, listed}
 use Rattle.session.specs.declared.Phase.the-variants.{Listing, Overfull, Playing, Over}
 use Rattle.session.specs.declared.Session.{Session}
-use Rattle.session.proofs.SayLaws.{put-none}
+use Rattle.script.proofs.SayLaws.{put-none}
 
 pub called-answers : (s next′ : Session) (b : Buffers) (a : After) (h : Host) (m st k o o′ : List ℕ) (n w : ℕ) → Does a h m st k o o′ n → w ≡ n
     → next′ ≡ became s Playing (s .size) h → Answers (called s b a) next′ (buffersOf m st k (b .text)) o o′ w

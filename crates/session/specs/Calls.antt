@@ -12,10 +12,11 @@ use Rattle.host.specs.Stage.{writeAnswer, writeStaging}
 use Rattle.host.specs.Cursors.{openAnswer}
 use Rattle.host.specs.Paging.{nextAnswer, nextMemory}
 use Rattle.host.specs.Ending.{returnAnswer, returnCard, returnStaging}
-use Rattle.session.specs.Words.{beginWord, writeWord, openWord, nextWord}
-use Rattle.session.specs.Laying.{beginLaid, writeLaid, openLaid, nextLaid}
-use Rattle.session.specs.Saying.{Put, saidAnswer, saidFate}
-use Rattle.session.specs.Events.{eventLines}
+use Rattle.script.specs.Words.{beginWord, writeWord, openWord, nextWord}
+use Rattle.script.specs.Laying.{beginLaid, writeLaid, openLaid, nextLaid}
+use Rattle.script.specs.Saying.{Put, saidAnswer}
+use Rattle.session.specs.Fates.{saidFate}
+use Rattle.script.specs.Events.{eventLines}
 
 -- the host and the buffers after a call, and the bytes printed
 pub record After : Type 0 where

@@ -1,8 +1,3 @@
-pub mod Words
-pub mod Forms
-pub mod Laying
-pub mod Saying
-pub mod Events
+pub mod Fates
 pub mod Calls
 pub mod Sessions
-pub mod Gathering

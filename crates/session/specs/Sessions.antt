@@ -16,13 +16,13 @@ use Rattle.host.specs.declared.Host.{Host}
 use Rattle.host.specs.declared.Mounted.{Mounted}
 use Rattle.host.specs.Hosts.{Lent, lentAs}
 use Rattle.host.specs.Mount.{mounted, freshHost}
-use Rattle.session.specs.Words.{goWord}
-use Rattle.session.specs.Forms.{codeOf, lineOf}
-use Rattle.session.specs.Laying.{writeLaid, openLaid, nextLaid}
-use Rattle.session.specs.Saying.{Put, saidBad, saidMount}
+use Rattle.script.specs.Words.{goWord}
+use Rattle.script.specs.Forms.{codeOf, lineOf}
+use Rattle.script.specs.Laying.{writeLaid, openLaid, nextLaid}
+use Rattle.script.specs.Saying.{Put, saidBad, saidMount}
 use Rattle.session.specs.Calls.{After, beginAfter, writeAfter, openAfter, nextAfter, returnAfter}
-use Rattle.session.specs.declared.forms.Line.{Line}
-use Rattle.session.specs.declared.forms.Line.the-variants.{Begin, Write, Open, Next, Return, Bad}
+use Rattle.script.specs.declared.forms.Line.{Line}
+use Rattle.script.specs.declared.forms.Line.the-variants.{Begin, Write, Open, Next, Return, Bad}
 use Rattle.session.specs.declared.Phase.{Phase}
 use Rattle.session.specs.declared.Phase.the-variants.{Listing, Overfull, Playing, Over}
 use Rattle.session.specs.declared.Session.{Session}

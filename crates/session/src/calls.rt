@@ -3,16 +3,16 @@ ghost use mathlib.Core.Path.{_≡_};
 ghost use Prim.Native.Nat.{_≤_};
 ghost use lib.ListN.{length};
 ghost use Rattle.host.specs.Hosts.{lentAs};
-ghost use Rattle.session.specs.Laying.{writeLaid, openLaid, nextLaid};
+ghost use Rattle.script.specs.Laying.{writeLaid, openLaid, nextLaid};
 ghost use Rattle.session.specs.Calls.{Does, beginAfter, writeAfter, openAfter, nextAfter, returnAfter};
-use crate::events::put_events;
-use crate::laying::begin_args;
-use crate::laying::lay_next;
-use crate::laying::lay_open;
-use crate::laying::lay_write;
-use crate::say::say_answer;
-use crate::say::say_fate;
+use crate::fates::say_fate;
 use host::Host;
+use script::events::put_events;
+use script::laying::begin_args;
+use script::laying::lay_next;
+use script::laying::lay_open;
+use script::laying::lay_write;
+use script::say::say_answer;
 
 // How many bytes were printed, and the next state.
 pub(crate) struct Told {

@@ -1,12 +1,8 @@
 // A rehearsal, as document 01 has it, line by line: a session by value beside lent buffers; one line in, its lines out.
 pub mod calls;
-pub mod events;
-pub mod forms;
-pub mod gather;
-pub mod laying;
+pub mod fates;
 pub mod listing;
 pub mod playing;
-pub mod say;
 pub mod steps;
 
 use host::Host;

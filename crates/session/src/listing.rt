@@ -1,14 +1,14 @@
 // Up to `go`: the manifest, and the mount.
 ghost use mathlib.Core.Path.{_≡_};
-ghost use Rattle.session.specs.Saying.{Put, saidMount};
+ghost use Rattle.script.specs.Saying.{Put, saidMount};
 ghost use Rattle.session.specs.Sessions.{Answers, buffersOf, became, mountAnswer, lentOf, listed, refusedMount, listing};
 ghost use Rattle.session.specs.declared.Phase.the-variants.{Over};
 ghost use Rattle.host.specs.Mount.{mounted};
 use crate::Phase;
 use crate::Said;
 use crate::Session;
-use crate::say::say_answer;
 use host::Host;
+use script::say::say_answer;
 use text::compare::same;
 use weave::Code;
 use weave::sums::within;

@@ -2,7 +2,7 @@
 ghost use mathlib.Core.Path.{_≡_};
 ghost use Prim.Native.Nat.{_≤_};
 ghost use lib.ListN.{length};
-ghost use Rattle.session.specs.Saying.{Put, saidBad};
+ghost use Rattle.script.specs.Saying.{Put, saidBad};
 ghost use Rattle.session.specs.Sessions.{Answers, buffersOf, became, counted, played, playing, answered, endIn, isOver};
 ghost use Rattle.session.specs.declared.Phase.the-variants.{Playing, Over};
 use crate::Phase;
@@ -10,9 +10,9 @@ use crate::Said;
 use crate::Session;
 use crate::calls;
 use crate::calls::Told;
-use crate::forms::Line;
-use crate::forms::code_of;
-use crate::say::say_answer;
+use script::forms::Line;
+use script::forms::code_of;
+use script::say::say_answer;
 use text::lines::field;
 use weave::Code;
 

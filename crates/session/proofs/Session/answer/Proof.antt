@@ -1,5 +1,5 @@
 -- `session::Session::answer` meets its contract. Assumes nothing.
-use Rattle.session.proofs.SayLaws.{put-none}
+use Rattle.script.proofs.SayLaws.{put-none}
 use Rattle.session.specs.Sessions.{inPhase, answered}
 use native.Mathlib.Omega.{arith}
 use mathlib.Core.Path.{refl}

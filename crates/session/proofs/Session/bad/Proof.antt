@@ -1,6 +1,6 @@
 -- `session::Session::bad` meets its contract. Assumes nothing.
 use mathlib.Core.Path.{sym}
-use Rattle.session.specs.Words.{badWord}
+use Rattle.script.specs.Words.{badWord}
 use borrow.Author.Needs.{needs}
 use Rattle.session.proofs.Session.bad.Statement.{statement}
 use Rattle.session.proofs.Session.bad.Tie as tie

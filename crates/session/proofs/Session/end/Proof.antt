@@ -1,7 +1,7 @@
 -- `session::Session::end` meets its contract. Assumes nothing.
-use Rattle.session.proofs.SayLaws.{put-none}
+use Rattle.script.proofs.SayLaws.{put-none}
 use Rattle.session.specs.Sessions.{endIn}
-use Rattle.session.specs.Words.{badWord}
+use Rattle.script.specs.Words.{badWord}
 use native.Mathlib.Omega.{arith}
 use mathlib.Core.Path.{sym}
 use borrow.Author.Needs.{needs}

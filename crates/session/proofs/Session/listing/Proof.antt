@@ -1,6 +1,6 @@
 -- `session::Session::listing` meets its contract. Assumes nothing.
 use Rattle.session.specs.Sessions.{listing}
-use Rattle.session.specs.Words.{goWord}
+use Rattle.script.specs.Words.{goWord}
 use borrow.Author.Needs.{needs}
 use Rattle.session.proofs.Session.listing.Statement.{statement}
 use Rattle.session.proofs.Session.listing.Tie as tie

@@ -1,7 +1,7 @@
 -- `session::Session::overfull` meets its contract. Assumes nothing.
-use Rattle.session.proofs.SayLaws.{put-none}
+use Rattle.script.proofs.SayLaws.{put-none}
 use Rattle.session.specs.Sessions.{refusedMount}
-use Rattle.session.specs.Words.{goWord}
+use Rattle.script.specs.Words.{goWord}
 use native.Mathlib.Omega.{arith}
 use mathlib.Core.Path.{refl}
 use borrow.Author.Needs.{needs}

@@ -1,6 +1,6 @@
 -- `session::Session::played` meets its contract. Assumes nothing.
 use Rattle.session.proofs.SessionLaws.{called-answers, bad-answers}
-use Rattle.session.proofs.FormLaws.{coded}
+use Rattle.script.proofs.FormLaws.{coded}
 use Rattle.session.specs.Sessions.{played}
 use borrow.Author.Needs.{needs}
 use Rattle.session.proofs.Session.played.Statement.{statement}

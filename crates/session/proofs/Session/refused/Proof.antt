@@ -1,5 +1,5 @@
 -- `session::Session::refused` meets its contract. Assumes nothing.
-use Rattle.session.specs.Words.{mountWord}
+use Rattle.script.specs.Words.{mountWord}
 use borrow.Author.Needs.{needs}
 use Rattle.session.proofs.Session.refused.Statement.{statement}
 use Rattle.session.proofs.Session.refused.Tie as tie

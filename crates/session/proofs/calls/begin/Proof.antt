@@ -1,6 +1,6 @@
 -- `session::calls::begin` meets its contract. Assumes nothing.
 use Rattle.session.proofs.CallLaws.{begin-does}
-use Rattle.session.specs.Words.{beginWord}
+use Rattle.script.specs.Words.{beginWord}
 use borrow.Author.Needs.{needs}
 use Rattle.session.proofs.calls.begin.Statement.{statement}
 use Rattle.session.proofs.calls.begin.Tie as tie

@@ -1,7 +1,7 @@
 -- `session::calls::next` meets its contract. Assumes nothing.
 use Rattle.session.proofs.CallLaws.{next-does}
-use Rattle.session.proofs.EventLaws.{page-short}
-use Rattle.session.specs.Words.{nextWord}
+use Rattle.script.proofs.EventLaws.{page-short}
+use Rattle.script.specs.Words.{nextWord}
 use native.Mathlib.Omega.{arith}
 use borrow.Author.Needs.{needs}
 use Rattle.session.proofs.calls.next.Statement.{statement}

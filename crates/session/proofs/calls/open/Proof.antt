@@ -1,6 +1,6 @@
 -- `session::calls::open` meets its contract. Assumes nothing.
 use Rattle.session.proofs.CallLaws.{open-does}
-use Rattle.session.specs.Words.{openWord}
+use Rattle.script.specs.Words.{openWord}
 use borrow.Author.Needs.{needs}
 use Rattle.session.proofs.calls.open.Statement.{statement}
 use Rattle.session.proofs.calls.open.Tie as tie

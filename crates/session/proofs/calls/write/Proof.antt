@@ -1,6 +1,6 @@
 -- `session::calls::write` meets its contract. Assumes nothing.
 use Rattle.session.proofs.CallLaws.{write-does}
-use Rattle.session.specs.Words.{writeWord}
+use Rattle.script.specs.Words.{writeWord}
 use borrow.Author.Needs.{needs}
 use Rattle.session.proofs.calls.write.Statement.{statement}
 use Rattle.session.proofs.calls.write.Tie as tie

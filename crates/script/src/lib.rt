@@ -1,0 +1,6 @@
+// The script of a rehearsal: its lines as they are read, and as they are printed.
+pub mod events;
+pub mod forms;
+pub mod gather;
+pub mod laying;
+pub mod say;
