@@ -1,6 +1,7 @@
 // The input, piece by piece, and each line of it answered as soon as it is whole.
 use libc::STDIN_FILENO;
 use libc::STDOUT_FILENO;
+use script::Buffer;
 use script::gather::gather;
 use session::Session;
 
@@ -10,19 +11,19 @@ struct Play {
     pub held: usize,
 }
 
-fn tell(out: &[u8; 65536], n: usize) {
+fn tell(out: &Buffer, n: usize) {
     io::write_all(STDOUT_FILENO, le::front(out, n));
 }
 
 // The line that is held is whole.
 fn answer(
     p: Play,
-    line: &[u8; 65536],
-    memory: &mut [u8; 65536],
-    staging: &mut [u8; 65536],
-    card: &mut [u8; 65536],
-    text: &mut [u8; 65536],
-    out: &mut [u8; 65536],
+    line: &Buffer,
+    memory: &mut Buffer,
+    staging: &mut Buffer,
+    card: &mut Buffer,
+    text: &mut Buffer,
+    out: &mut Buffer,
 ) -> Play {
     let session = p.session;
     let said = session.answer(le::front(line, p.held), memory, staging, card, text, out);
@@ -38,12 +39,12 @@ fn answer(
 fn piece(
     piece: &[u8],
     p: Play,
-    line: &mut [u8; 65536],
-    memory: &mut [u8; 65536],
-    staging: &mut [u8; 65536],
-    card: &mut [u8; 65536],
-    text: &mut [u8; 65536],
-    out: &mut [u8; 65536],
+    line: &mut Buffer,
+    memory: &mut Buffer,
+    staging: &mut Buffer,
+    card: &mut Buffer,
+    text: &mut Buffer,
+    out: &mut Buffer,
 ) -> Play {
     let mut play = p;
     let mut at = 0;
@@ -61,12 +62,12 @@ fn piece(
 // The next piece, as many bytes as there are by now: at a keyboard a line is answered when it is typed. Whether to go on.
 fn more(
     p: Play,
-    line: &mut [u8; 65536],
-    memory: &mut [u8; 65536],
-    staging: &mut [u8; 65536],
-    card: &mut [u8; 65536],
-    text: &mut [u8; 65536],
-    out: &mut [u8; 65536],
+    line: &mut Buffer,
+    memory: &mut Buffer,
+    staging: &mut Buffer,
+    card: &mut Buffer,
+    text: &mut Buffer,
+    out: &mut Buffer,
 ) -> Turn {
     let mut input = io::large_buffer();
     let got = libc::read(STDIN_FILENO, &mut input);
@@ -87,12 +88,12 @@ struct Turn {
 // The end of the input: its last line may lack byte 10.
 fn end(
     p: Play,
-    line: &[u8; 65536],
-    memory: &mut [u8; 65536],
-    staging: &mut [u8; 65536],
-    card: &mut [u8; 65536],
-    text: &mut [u8; 65536],
-    out: &mut [u8; 65536],
+    line: &Buffer,
+    memory: &mut Buffer,
+    staging: &mut Buffer,
+    card: &mut Buffer,
+    text: &mut Buffer,
+    out: &mut Buffer,
 ) {
     let mut play = p;
     if 0 < play.held {
@@ -104,12 +105,12 @@ fn end(
 }
 
 pub(crate) fn all(
-    line: &mut [u8; 65536],
-    memory: &mut [u8; 65536],
-    staging: &mut [u8; 65536],
-    card: &mut [u8; 65536],
-    text: &mut [u8; 65536],
-    out: &mut [u8; 65536],
+    line: &mut Buffer,
+    memory: &mut Buffer,
+    staging: &mut Buffer,
+    card: &mut Buffer,
+    text: &mut Buffer,
+    out: &mut Buffer,
 ) {
     let session = Session::fresh();
     let mut play = Play { session, held: 0 };

@@ -11,6 +11,7 @@ use Rattle.le.specs.Splice.{splice}
 use Rattle.le.proofs.LeLaws.{length-leBytes}
 use Rattle.le.proofs.SpliceLaws.{splice-then}
 use Rattle.script.specs.Laying.{words, writeLaid, openLaid}
+use Rattle.script.specs.declared.forms.Window.{Window}
 
 pub laid-past : (xs : List ℕ) (at : ℕ) (ys : List ℕ) → length xs ≤ at → xs ≡ splice xs at ys
 unfolding splice
@@ -64,8 +65,8 @@ unfolding writeLaid
 write-laid m s₁ s₂ s₃ s₄ topic payload k ek p q u v =
     v ∙ rw (u, six-laid m s₁ s₂ 56 (length topic) k (length payload) 1 0 p q, ek)
 
-pub open-laid : (m s₁ s₂ s₃ filter : List ℕ) (from to limit desc : ℕ)
-    → s₁ ≡ splice m 8 (words (56 ∷ length filter ∷ from ∷ [])) → s₂ ≡ splice s₁ 32 (words (to ∷ limit ∷ desc ∷ [])) → s₃ ≡ splice s₂ 56 filter
-    → s₃ ≡ openLaid m filter from to limit desc
+pub open-laid : (m s₁ s₂ s₃ filter : List ℕ) (w : Window)
+    → s₁ ≡ splice m 8 (words (56 ∷ length filter ∷ w .from ∷ [])) → s₂ ≡ splice s₁ 32 (words (w .to ∷ w .limit ∷ w .desc ∷ [])) → s₃ ≡ splice s₂ 56 filter
+    → s₃ ≡ openLaid m filter w
 unfolding openLaid
-open-laid m s₁ s₂ s₃ filter from to limit desc p q u = u ∙ rw (six-laid m s₁ s₂ 56 (length filter) from to limit desc p q)
+open-laid m s₁ s₂ s₃ filter w p q u = u ∙ rw (six-laid m s₁ s₂ 56 (length filter) (w .from) (w .to) (w .limit) (w .desc) p q)

@@ -83,7 +83,7 @@ unfoldable pub lineOf : List ℕ → Line
 lineOf s =
     cond (isBegin s) (Begin (valueAt 1 s) (valueAt 2 s))
     (cond (isWrite s) Write
-    (cond (isOpen s) (Open (valueAt 2 s) (valueAt 3 s) (valueAt 4 s) (valueAt 5 s))
+    (cond (isOpen s) (Open (record { from = valueAt 2 s; to = valueAt 3 s; limit = valueAt 4 s; desc = valueAt 5 s }))
     (cond (isNext s) (Next (valueAt 1 s) (valueAt 2 s))
     (cond (isReturn s) Return
     Bad))))

@@ -5,6 +5,7 @@ use Prim.Native.Nat.{ℕ, _+_}
 use lib.ListN.{length}
 use Rattle.le.specs.Le.{leBytes}
 use Rattle.le.specs.Splice.{splice, zeros}
+use Rattle.script.specs.declared.forms.Window.{Window}
 
 -- numbers of 8 bytes, one after the other
 unfoldable pub words : List ℕ → List ℕ
@@ -23,8 +24,8 @@ writeLaid m topic payload =
     (56 + length topic) payload
 
 -- tl_open: topic 0, start 16, end 24, limit 32, desc 40
-unfoldable pub openLaid : List ℕ → List ℕ → ℕ → ℕ → ℕ → ℕ → List ℕ
-openLaid m filter from to limit desc = splice (splice m 8 (words (56 ∷ length filter ∷ from ∷ to ∷ limit ∷ desc ∷ []))) 56 filter
+unfoldable pub openLaid : List ℕ → List ℕ → Window → List ℕ
+openLaid m filter w = splice (splice m 8 (words (56 ∷ length filter ∷ w .from ∷ w .to ∷ w .limit ∷ w .desc ∷ []))) 56 filter
 
 -- tl_next: handle 0, out_ptr 8, buf_cap 16
 unfoldable pub nextLaid : List ℕ → ℕ → ℕ → List ℕ

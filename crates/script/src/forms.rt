@@ -8,23 +8,20 @@ use text::decimal::read_number;
 use text::lines::field;
 use text::lines::field_count;
 
+// What a cursor is asked to list, but for its filter.
+pub struct Window {
+    pub from: u64,
+    pub to: u64,
+    pub limit: u64,
+    pub desc: u64,
+}
+
 // A line's numbers. Its texts, and a return's code, stay in it.
 pub enum Line {
-    Begin {
-        units: u64,
-        time: u64,
-    },
+    Begin { units: u64, time: u64 },
     Write,
-    Open {
-        from: u64,
-        to: u64,
-        limit: u64,
-        desc: u64,
-    },
-    Next {
-        handle: u64,
-        cap: u64,
-    },
+    Open(Window),
+    Next { handle: u64, cap: u64 },
     Return,
     Bad,
 }
@@ -150,6 +147,9 @@ fn is_return(line: &[u8]) -> bool
 }
 
 impl Line {
+    // With its byte 10 it fills a buffer.
+    pub const LONGEST: usize = 65_535;
+
     pub fn read(line: &[u8]) -> Line
         ensures { λ r. ⌜ r ≡ lineOf (now (line .entry)) ⌝ }
     {
@@ -163,12 +163,12 @@ impl Line {
             return Line::Write;
         }
         if is_open(line) {
-            return Line::Open {
+            return Line::Open(Window {
                 from: value_at(line, 2),
                 to: value_at(line, 3),
                 limit: value_at(line, 4),
                 desc: value_at(line, 5),
-            };
+            });
         }
         if is_next(line) {
             return Line::Next {

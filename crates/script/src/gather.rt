@@ -2,6 +2,7 @@
 ghost use mathlib.Core.Path.{_≡_};
 ghost use Rattle.le.specs.Splice.{splice};
 ghost use Rattle.script.specs.Gathering.{more, heldWith, gathered};
+use crate::Buffer;
 use crate::laying::lay;
 use text::lines::find;
 
@@ -27,7 +28,7 @@ fn held_with(held: usize, n: usize) -> usize
 }
 
 // More of the line of which `held` bytes stand in `line`: from `at` on of the piece, up to its end or the line's.
-pub fn gather(piece: &[u8], at: usize, line: &mut [u8; 65536], held: usize) -> Gathered
+pub fn gather(piece: &[u8], at: usize, line: &mut Buffer, held: usize) -> Gathered
     ensures { λ r. ⌜ r ≡ gathered (now (piece .entry)) at held ⌝ }
     ensures { λ _. ⌜ now (line .exit) ≡ splice (now (line .entry)) held (more (now (piece .entry)) at) ⌝ }
 {

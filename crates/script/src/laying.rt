@@ -5,6 +5,8 @@ ghost use Prim.Native.Nat.{_+_, _≤_};
 ghost use lib.ListN.{length};
 ghost use Rattle.le.specs.Splice.{splice};
 ghost use Rattle.script.specs.Laying.{words, beginLaid, writeLaid, openLaid, nextLaid};
+use crate::Buffer;
+use crate::forms::Window;
 
 // All of src, laid over dst from `at` on, as much of it as there is room for.
 pub fn lay(src: &[u8], dst: &mut [u8], at: usize)
@@ -35,7 +37,7 @@ pub fn begin_args(units: u64, time: u64) -> [u8; 128]
     args
 }
 
-pub fn lay_write(memory: &mut [u8; 65536], topic: &[u8], payload: &[u8])
+pub fn lay_write(memory: &mut Buffer, topic: &[u8], payload: &[u8])
     requires { ⌜ length (now topic) ≤ 65535 ⌝ }
     ensures { λ _. ⌜ now (memory .exit) ≡ writeLaid (now (memory .entry)) (now (topic .entry)) (now (payload .entry)) ⌝ }
 {
@@ -46,15 +48,15 @@ pub fn lay_write(memory: &mut [u8; 65536], topic: &[u8], payload: &[u8])
     lay(payload, memory, behind);
 }
 
-pub fn lay_open(memory: &mut [u8; 65536], filter: &[u8], from: u64, to: u64, limit: u64, desc: u64)
-    ensures { λ _. ⌜ now (memory .exit) ≡ openLaid (now (memory .entry)) (now (filter .entry)) from to limit desc ⌝ }
+pub fn lay_open(memory: &mut Buffer, filter: &[u8], w: Window)
+    ensures { λ _. ⌜ now (memory .exit) ≡ openLaid (now (memory .entry)) (now (filter .entry)) w ⌝ }
 {
-    put_three(memory, 8, 56, filter.len() as u64, from);
-    put_three(memory, 32, to, limit, desc);
+    put_three(memory, 8, 56, filter.len() as u64, w.from);
+    put_three(memory, 32, w.to, w.limit, w.desc);
     lay(filter, memory, 56);
 }
 
-pub fn lay_next(memory: &mut [u8; 65536], handle: u64, cap: u64)
+pub fn lay_next(memory: &mut Buffer, handle: u64, cap: u64)
     ensures { λ _. ⌜ now (memory .exit) ≡ nextLaid (now (memory .entry)) handle cap ⌝ }
 {
     put_three(memory, 8, handle, 8, cap);

@@ -4,3 +4,6 @@ pub mod forms;
 pub mod gather;
 pub mod laying;
 pub mod say;
+
+// 01: "All buffers are 65,536 bytes".
+pub type Buffer = [u8; 65536];

@@ -5,6 +5,7 @@ ghost use Prim.Native.Nat.{_+_, _≤_};
 ghost use lib.ListN.{length};
 ghost use Rattle.text.specs.Decimal.{decimal};
 ghost use Rattle.script.specs.Saying.{Put, answerText, sizeOf, saidAnswer};
+use crate::Buffer;
 use weave::Code;
 
 pub fn put_byte(out: &mut [u8], at: usize, b: u8) -> usize
@@ -81,7 +82,7 @@ pub fn put_answer(out: &mut [u8], at: usize, c: Code, v: u64) -> usize
 }
 
 // A word, and what a call is answered with.
-pub fn say_answer(out: &mut [u8; 65536], word: &[u8], c: Code, v: u64) -> usize
+pub fn say_answer(out: &mut Buffer, word: &[u8], c: Code, v: u64) -> usize
     requires { ⌜ length (now word) ≤ 9 ⌝ }
     ensures { λ r. ⌜ Put (now (out .entry)) (now (out .exit)) 0 (saidAnswer (now (word .entry)) c v) r ⌝ }
     ensures { λ r. ⌜ r ≤ 32 ⌝ }

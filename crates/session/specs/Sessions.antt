@@ -79,8 +79,7 @@ called s b a =
 unfoldable pub played : Session → Buffers → List ℕ → Line → Answered
 played s b line (Begin units time) = called s b (beginAfter (lentOf s b) (s .host) (b .memory) units time)
 played s b line Write = called s b (writeAfter (lentOf s b) (s .host) (writeLaid (b .memory) (field 1 line) (field 2 line)))
-played s b line (Open from to limit desc) =
-    called s b (openAfter (lentOf s b) (s .host) (openLaid (b .memory) (field 1 line) from to limit desc))
+played s b line (Open w) = called s b (openAfter (lentOf s b) (s .host) (openLaid (b .memory) (field 1 line) w))
 played s b line (Next handle cap) = called s b (nextAfter (lentOf s b) (s .host) (nextLaid (b .memory) handle cap))
 played s b line Return = called s b (returnAfter (lentOf s b) (s .host) (b .memory) (codeOf (field 1 line)))
 played s b line Bad = badAnswer s b

@@ -3,16 +3,22 @@ ghost use mathlib.Core.Path.{_≡_};
 ghost use Prim.Native.Nat.{_≤_};
 ghost use lib.ListN.{length};
 ghost use Rattle.host.specs.Hosts.{lentAs};
+ghost use Rattle.text.specs.Lines.{field};
+ghost use Rattle.script.specs.Forms.{codeOf};
 ghost use Rattle.script.specs.Laying.{writeLaid, openLaid, nextLaid};
 ghost use Rattle.session.specs.Calls.{Does, beginAfter, writeAfter, openAfter, nextAfter, returnAfter};
 use crate::fates::say_fate;
 use host::Host;
+use script::Buffer;
 use script::events::put_events;
+use script::forms::Window;
+use script::forms::code_of;
 use script::laying::begin_args;
 use script::laying::lay_next;
 use script::laying::lay_open;
 use script::laying::lay_write;
 use script::say::say_answer;
+use text::lines::field;
 
 // How many bytes were printed, and the next state.
 pub(crate) struct Told {
@@ -24,11 +30,11 @@ pub(crate) fn begin(
     host: Host,
     units: u64,
     time: u64,
-    memory: &mut [u8; 65536],
-    staging: &mut [u8; 65536],
-    card: &mut [u8; 65536],
+    memory: &mut Buffer,
+    staging: &mut Buffer,
+    card: &mut Buffer,
     text: &[u8],
-    out: &mut [u8; 65536],
+    out: &mut Buffer,
 ) -> Told
     ensures { λ r. ⌜ Does (beginAfter (lentAs (now (staging .entry)) (now (card .entry)) (now (text .entry))) host (now (memory .entry)) units time) (r .host) (now (memory .exit)) (now (staging .exit)) (now (card .exit)) (now (out .entry)) (now (out .exit)) (r .wrote) ⌝ }
 {
@@ -42,18 +48,17 @@ pub(crate) fn begin(
 
 pub(crate) fn write(
     host: Host,
-    topic: &[u8],
-    payload: &[u8],
-    memory: &mut [u8; 65536],
-    staging: &mut [u8; 65536],
-    card: &mut [u8; 65536],
+    line: &[u8],
+    memory: &mut Buffer,
+    staging: &mut Buffer,
+    card: &mut Buffer,
     text: &[u8],
-    out: &mut [u8; 65536],
+    out: &mut Buffer,
 ) -> Told
-    requires { ⌜ length (now topic) ≤ 65535 ⌝ }
-    ensures { λ r. ⌜ Does (writeAfter (lentAs (now (staging .entry)) (now (card .entry)) (now (text .entry))) host (writeLaid (now (memory .entry)) (now (topic .entry)) (now (payload .entry)))) (r .host) (now (memory .exit)) (now (staging .exit)) (now (card .exit)) (now (out .entry)) (now (out .exit)) (r .wrote) ⌝ }
+    requires { ⌜ length (now line) ≤ 65535 ⌝ }
+    ensures { λ r. ⌜ Does (writeAfter (lentAs (now (staging .entry)) (now (card .entry)) (now (text .entry))) host (writeLaid (now (memory .entry)) (field 1 (now (line .entry))) (field 2 (now (line .entry))))) (r .host) (now (memory .exit)) (now (staging .exit)) (now (card .exit)) (now (out .entry)) (now (out .exit)) (r .wrote) ⌝ }
 {
-    lay_write(memory, topic, payload);
+    lay_write(memory, field(line, 1), field(line, 2));
     let a = host.write(memory, staging, card, text, 8);
     let code = a.code;
     let next = a.host;
@@ -63,20 +68,17 @@ pub(crate) fn write(
 
 pub(crate) fn open(
     host: Host,
-    filter: &[u8],
-    from: u64,
-    to: u64,
-    limit: u64,
-    desc: u64,
-    memory: &mut [u8; 65536],
-    staging: &mut [u8; 65536],
-    card: &mut [u8; 65536],
+    line: &[u8],
+    w: Window,
+    memory: &mut Buffer,
+    staging: &mut Buffer,
+    card: &mut Buffer,
     text: &[u8],
-    out: &mut [u8; 65536],
+    out: &mut Buffer,
 ) -> Told
-    ensures { λ r. ⌜ Does (openAfter (lentAs (now (staging .entry)) (now (card .entry)) (now (text .entry))) host (openLaid (now (memory .entry)) (now (filter .entry)) from to limit desc)) (r .host) (now (memory .exit)) (now (staging .exit)) (now (card .exit)) (now (out .entry)) (now (out .exit)) (r .wrote) ⌝ }
+    ensures { λ r. ⌜ Does (openAfter (lentAs (now (staging .entry)) (now (card .entry)) (now (text .entry))) host (openLaid (now (memory .entry)) (field 1 (now (line .entry))) w)) (r .host) (now (memory .exit)) (now (staging .exit)) (now (card .exit)) (now (out .entry)) (now (out .exit)) (r .wrote) ⌝ }
 {
-    lay_open(memory, filter, from, to, limit, desc);
+    lay_open(memory, field(line, 1), w);
     let a = host.open(memory, staging, card, text, 8);
     let code = a.code;
     let next = a.host;
@@ -88,11 +90,11 @@ pub(crate) fn next(
     host: Host,
     handle: u64,
     cap: u64,
-    memory: &mut [u8; 65536],
-    staging: &mut [u8; 65536],
-    card: &mut [u8; 65536],
+    memory: &mut Buffer,
+    staging: &mut Buffer,
+    card: &mut Buffer,
     text: &[u8],
-    out: &mut [u8; 65536],
+    out: &mut Buffer,
 ) -> Told
     ensures { λ r. ⌜ Does (nextAfter (lentAs (now (staging .entry)) (now (card .entry)) (now (text .entry))) host (nextLaid (now (memory .entry)) handle cap)) (r .host) (now (memory .exit)) (now (staging .exit)) (now (card .exit)) (now (out .entry)) (now (out .exit)) (r .wrote) ⌝ }
 {
@@ -108,15 +110,16 @@ pub(crate) fn next(
 
 pub(crate) fn turn_over(
     host: Host,
-    code: i64,
-    memory: &mut [u8; 65536],
-    staging: &mut [u8; 65536],
-    card: &mut [u8; 65536],
+    line: &[u8],
+    memory: &mut Buffer,
+    staging: &mut Buffer,
+    card: &mut Buffer,
     text: &[u8],
-    out: &mut [u8; 65536],
+    out: &mut Buffer,
 ) -> Told
-    ensures { λ r. ⌜ Does (returnAfter (lentAs (now (staging .entry)) (now (card .entry)) (now (text .entry))) host (now (memory .entry)) code) (r .host) (now (memory .exit)) (now (staging .exit)) (now (card .exit)) (now (out .entry)) (now (out .exit)) (r .wrote) ⌝ }
+    ensures { λ r. ⌜ Does (returnAfter (lentAs (now (staging .entry)) (now (card .entry)) (now (text .entry))) host (now (memory .entry)) (codeOf (field 1 (now (line .entry))))) (r .host) (now (memory .exit)) (now (staging .exit)) (now (card .exit)) (now (out .entry)) (now (out .exit)) (r .wrote) ⌝ }
 {
+    let code = code_of(field(line, 1));
     let a = host.module_return(staging, card, text, code);
     let fate = a.fate;
     let next = a.host;

@@ -3,6 +3,7 @@ ghost use mathlib.Core.Path.{_≡_};
 ghost use Rattle.script.specs.Saying.{Put};
 ghost use Rattle.session.specs.Fates.{saidFate};
 use host::Fate;
+use script::Buffer;
 use script::say::put_answer;
 use script::say::put_byte;
 use script::say::put_bytes;
@@ -10,7 +11,7 @@ use script::say::put_numeral;
 use script::say::say_answer;
 use weave::Code;
 
-fn say_discarded(out: &mut [u8; 65536], c: Code) -> usize
+fn say_discarded(out: &mut Buffer, c: Code) -> usize
     ensures { λ r. ⌜ Put (now (out .entry)) (now (out .exit)) 0 (saidFate (Fate.Discarded c)) r ⌝ }
 {
     let a = put_bytes(out, 0, b"return\tdiscarded");
@@ -18,7 +19,7 @@ fn say_discarded(out: &mut [u8; 65536], c: Code) -> usize
     put_byte(out, b, b'\n')
 }
 
-fn say_committed(out: &mut [u8; 65536], events: u64, bytes: usize) -> usize
+fn say_committed(out: &mut Buffer, events: u64, bytes: usize) -> usize
     ensures { λ r. ⌜ Put (now (out .entry)) (now (out .exit)) 0 (saidFate (Fate.Committed events bytes)) r ⌝ }
 {
     let a = put_bytes(out, 0, b"return\tcommitted");
@@ -27,7 +28,7 @@ fn say_committed(out: &mut [u8; 65536], events: u64, bytes: usize) -> usize
     put_byte(out, c, b'\n')
 }
 
-pub(crate) fn say_fate(out: &mut [u8; 65536], f: Fate) -> usize
+pub(crate) fn say_fate(out: &mut Buffer, f: Fate) -> usize
     ensures { λ r. ⌜ Put (now (out .entry)) (now (out .exit)) 0 (saidFate f) r ⌝ }
 {
     match f {

@@ -8,13 +8,15 @@ use crate::Phase;
 use crate::Said;
 use crate::Session;
 use host::Host;
+use script::Buffer;
+use script::forms::Line;
 use script::say::say_answer;
 use text::compare::same;
 use weave::Code;
 use weave::sums::within;
 
 impl Session {
-    fn refused(self, code: Code, out: &mut [u8; 65536]) -> Said
+    fn refused(self, code: Code, out: &mut Buffer) -> Said
         ensures { λ r. ⌜ r .next ≡ became self Over (self .size) (self .host) ⌝ }
         ensures { λ r. ⌜ Put (now (out .entry)) (now (out .exit)) 0 (saidMount code) (r .wrote) ⌝ }
     {
@@ -28,11 +30,11 @@ impl Session {
 
     fn mount(
         self,
-        memory: &mut [u8; 65536],
-        staging: &mut [u8; 65536],
-        card: &mut [u8; 65536],
-        text: &mut [u8; 65536],
-        out: &mut [u8; 65536],
+        memory: &mut Buffer,
+        staging: &mut Buffer,
+        card: &mut Buffer,
+        text: &mut Buffer,
+        out: &mut Buffer,
     ) -> Said
         ensures { λ r. ⌜ Answers (mountAnswer self (buffersOf (now (memory .entry)) (now (staging .entry)) (now (card .entry)) (now (text .entry))) (mounted (lentOf self (buffersOf (now (memory .entry)) (now (staging .entry)) (now (card .entry)) (now (text .entry)))) 0)) (r .next) (buffersOf (now (memory .exit)) (now (staging .exit)) (now (card .exit)) (now (text .exit))) (now (out .entry)) (now (out .exit)) (r .wrote) ⌝ }
     {
@@ -52,18 +54,18 @@ impl Session {
     fn listed(
         self,
         line: &[u8],
-        memory: &mut [u8; 65536],
-        staging: &mut [u8; 65536],
-        card: &mut [u8; 65536],
-        text: &mut [u8; 65536],
-        out: &mut [u8; 65536],
+        memory: &mut Buffer,
+        staging: &mut Buffer,
+        card: &mut Buffer,
+        text: &mut Buffer,
+        out: &mut Buffer,
     ) -> Said
         ensures { λ r. ⌜ Answers (listed self (buffersOf (now (memory .entry)) (now (staging .entry)) (now (card .entry)) (now (text .entry))) (now (line .entry))) (r .next) (buffersOf (now (memory .exit)) (now (staging .exit)) (now (card .exit)) (now (text .exit))) (now (out .entry)) (now (out .exit)) (r .wrote) ⌝ }
     {
         let host = self.host;
         let size = self.size;
         let n = line.len();
-        if within(size as u64, n as u64, 65535) {
+        if within(size as u64, n as u64, Line::LONGEST as u64) {
             le::copy_at(line, text, size);
             text[size + n] = b'\n';
             return Said {
@@ -80,11 +82,11 @@ impl Session {
     pub(crate) fn listing(
         self,
         line: &[u8],
-        memory: &mut [u8; 65536],
-        staging: &mut [u8; 65536],
-        card: &mut [u8; 65536],
-        text: &mut [u8; 65536],
-        out: &mut [u8; 65536],
+        memory: &mut Buffer,
+        staging: &mut Buffer,
+        card: &mut Buffer,
+        text: &mut Buffer,
+        out: &mut Buffer,
     ) -> Said
         ensures { λ r. ⌜ Answers (listing self (buffersOf (now (memory .entry)) (now (staging .entry)) (now (card .entry)) (now (text .entry))) (now (line .entry))) (r .next) (buffersOf (now (memory .exit)) (now (staging .exit)) (now (card .exit)) (now (text .exit))) (now (out .entry)) (now (out .exit)) (r .wrote) ⌝ }
     {
@@ -98,11 +100,11 @@ impl Session {
     pub(crate) fn overfull(
         self,
         line: &[u8],
-        memory: &mut [u8; 65536],
-        staging: &mut [u8; 65536],
-        card: &mut [u8; 65536],
-        text: &mut [u8; 65536],
-        out: &mut [u8; 65536],
+        memory: &mut Buffer,
+        staging: &mut Buffer,
+        card: &mut Buffer,
+        text: &mut Buffer,
+        out: &mut Buffer,
     ) -> Said
         ensures { λ r. ⌜ Answers (refusedMount self (buffersOf (now (memory .entry)) (now (staging .entry)) (now (card .entry)) (now (text .entry))) (now (line .entry))) (r .next) (buffersOf (now (memory .exit)) (now (staging .exit)) (now (card .exit)) (now (text .exit))) (now (out .entry)) (now (out .exit)) (r .wrote) ⌝ }
     {

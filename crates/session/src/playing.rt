@@ -10,10 +10,9 @@ use crate::Said;
 use crate::Session;
 use crate::calls;
 use crate::calls::Told;
+use script::Buffer;
 use script::forms::Line;
-use script::forms::code_of;
 use script::say::say_answer;
-use text::lines::field;
 use weave::Code;
 
 impl Session {
@@ -28,7 +27,7 @@ impl Session {
     }
 
     // A line of another form.
-    fn bad(self, out: &mut [u8; 65536]) -> Said
+    fn bad(self, out: &mut Buffer) -> Said
         ensures { λ r. ⌜ r .next ≡ became self Over (self .size) (self .host) ⌝ }
         ensures { λ r. ⌜ Put (now (out .entry)) (now (out .exit)) 0 (saidBad (counted self)) (r .wrote) ⌝ }
     {
@@ -44,11 +43,11 @@ impl Session {
         self,
         line: &[u8],
         l: Line,
-        memory: &mut [u8; 65536],
-        staging: &mut [u8; 65536],
-        card: &mut [u8; 65536],
-        text: &mut [u8; 65536],
-        out: &mut [u8; 65536],
+        memory: &mut Buffer,
+        staging: &mut Buffer,
+        card: &mut Buffer,
+        text: &mut Buffer,
+        out: &mut Buffer,
     ) -> Said
         requires { ⌜ length (now line) ≤ 65535 ⌝ }
         ensures { λ r. ⌜ Answers (played self (buffersOf (now (memory .entry)) (now (staging .entry)) (now (card .entry)) (now (text .entry))) (now (line .entry)) l) (r .next) (buffersOf (now (memory .exit)) (now (staging .exit)) (now (card .exit)) (now (text .exit))) (now (out .entry)) (now (out .exit)) (r .wrote) ⌝ }
@@ -59,39 +58,29 @@ impl Session {
             Line::Begin { units, time } => {
                 self.called(calls::begin(host, units, time, memory, staging, card, lent, out))
             }
-            Line::Write => {
-                let topic = field(line, 1);
-                let payload = field(line, 2);
-                self.called(calls::write(host, topic, payload, memory, staging, card, lent, out))
-            }
-            Line::Open {
-                from,
-                to,
-                limit,
-                desc,
-            } => {
-                let filter = field(line, 1);
-                self.called(calls::open(
-                    host,
-                    filter,
-                    from,
-                    to,
-                    limit,
-                    desc,
-                    memory,
-                    staging,
-                    card,
-                    lent,
-                    out,
-                ))
-            }
+            Line::Write => self.called(calls::write(host, line, memory, staging, card, lent, out)),
+            Line::Open(w) => self.called(calls::open(
+                host,
+                line,
+                w,
+                memory,
+                staging,
+                card,
+                lent,
+                out,
+            )),
             Line::Next { handle, cap } => {
                 self.called(calls::next(host, handle, cap, memory, staging, card, lent, out))
             }
-            Line::Return => {
-                let code = code_of(field(line, 1));
-                self.called(calls::turn_over(host, code, memory, staging, card, lent, out))
-            }
+            Line::Return => self.called(calls::turn_over(
+                host,
+                line,
+                memory,
+                staging,
+                card,
+                lent,
+                out,
+            )),
             Line::Bad => self.bad(out),
         }
     }
@@ -100,15 +89,15 @@ impl Session {
     fn playing(
         self,
         line: &[u8],
-        memory: &mut [u8; 65536],
-        staging: &mut [u8; 65536],
-        card: &mut [u8; 65536],
-        text: &mut [u8; 65536],
-        out: &mut [u8; 65536],
+        memory: &mut Buffer,
+        staging: &mut Buffer,
+        card: &mut Buffer,
+        text: &mut Buffer,
+        out: &mut Buffer,
     ) -> Said
         ensures { λ r. ⌜ Answers (playing self (buffersOf (now (memory .entry)) (now (staging .entry)) (now (card .entry)) (now (text .entry))) (now (line .entry))) (r .next) (buffersOf (now (memory .exit)) (now (staging .exit)) (now (card .exit)) (now (text .exit))) (now (out .entry)) (now (out .exit)) (r .wrote) ⌝ }
     {
-        if 65535 < line.len() {
+        if Line::LONGEST < line.len() {
             return self.bad(out);
         }
         self.played(line, Line::read(line), memory, staging, card, text, out)
@@ -118,11 +107,11 @@ impl Session {
     pub fn answer(
         self,
         line: &[u8],
-        memory: &mut [u8; 65536],
-        staging: &mut [u8; 65536],
-        card: &mut [u8; 65536],
-        text: &mut [u8; 65536],
-        out: &mut [u8; 65536],
+        memory: &mut Buffer,
+        staging: &mut Buffer,
+        card: &mut Buffer,
+        text: &mut Buffer,
+        out: &mut Buffer,
     ) -> Said
         ensures { λ r. ⌜ Answers (answered self (buffersOf (now (memory .entry)) (now (staging .entry)) (now (card .entry)) (now (text .entry))) (now (line .entry))) (r .next) (buffersOf (now (memory .exit)) (now (staging .exit)) (now (card .exit)) (now (text .exit))) (now (out .entry)) (now (out .exit)) (r .wrote) ⌝ }
     {
@@ -139,7 +128,7 @@ impl Session {
     }
 
     // The end of the input.
-    pub fn end(self, out: &mut [u8; 65536]) -> usize
+    pub fn end(self, out: &mut Buffer) -> usize
         ensures { λ r. ⌜ Put (now (out .entry)) (now (out .exit)) 0 (endIn (self .phase) self) r ⌝ }
     {
         let phase = self.phase;

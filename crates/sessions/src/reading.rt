@@ -1,6 +1,7 @@
 // The input, piece by piece.
 use libc::STDIN_FILENO;
 use libc::STDOUT_FILENO;
+use script::Buffer;
 use script::gather::gather;
 use session::Session;
 use text::compare::starts_with;
@@ -12,12 +13,12 @@ struct Play {
     pub held: usize,
 }
 
-fn tell(out: &[u8; 65536], n: usize) {
+fn tell(out: &Buffer, n: usize) {
     io::write_all(STDOUT_FILENO, le::front(out, n));
 }
 
 // A session's end.
-fn end(p: Play, out: &mut [u8; 65536]) {
+fn end(p: Play, out: &mut Buffer) {
     if p.named {
         let session = p.session;
         let n = session.end(out);
@@ -26,7 +27,7 @@ fn end(p: Play, out: &mut [u8; 65536]) {
 }
 
 // A name: the session before it ends here.
-fn name(p: Play, line: &[u8; 65536], out: &mut [u8; 65536]) -> Play {
+fn name(p: Play, line: &Buffer, out: &mut Buffer) -> Play {
     end(p, out);
     tell(line, p.held);
     io::write_all(STDOUT_FILENO, b"\n");
@@ -41,12 +42,12 @@ fn name(p: Play, line: &[u8; 65536], out: &mut [u8; 65536]) -> Play {
 // The line that is held is whole.
 fn answer(
     p: Play,
-    line: &[u8; 65536],
-    memory: &mut [u8; 65536],
-    staging: &mut [u8; 65536],
-    card: &mut [u8; 65536],
-    text: &mut [u8; 65536],
-    out: &mut [u8; 65536],
+    line: &Buffer,
+    memory: &mut Buffer,
+    staging: &mut Buffer,
+    card: &mut Buffer,
+    text: &mut Buffer,
+    out: &mut Buffer,
 ) -> Play {
     let l = le::front(line, p.held);
     if starts_with(l, b"== ") {
@@ -67,12 +68,12 @@ fn answer(
 fn piece(
     piece: &[u8],
     p: Play,
-    line: &mut [u8; 65536],
-    memory: &mut [u8; 65536],
-    staging: &mut [u8; 65536],
-    card: &mut [u8; 65536],
-    text: &mut [u8; 65536],
-    out: &mut [u8; 65536],
+    line: &mut Buffer,
+    memory: &mut Buffer,
+    staging: &mut Buffer,
+    card: &mut Buffer,
+    text: &mut Buffer,
+    out: &mut Buffer,
 ) -> Play {
     let mut play = p;
     let mut at = 0;
@@ -95,12 +96,12 @@ struct Turn {
 
 fn more(
     p: Play,
-    line: &mut [u8; 65536],
-    memory: &mut [u8; 65536],
-    staging: &mut [u8; 65536],
-    card: &mut [u8; 65536],
-    text: &mut [u8; 65536],
-    out: &mut [u8; 65536],
+    line: &mut Buffer,
+    memory: &mut Buffer,
+    staging: &mut Buffer,
+    card: &mut Buffer,
+    text: &mut Buffer,
+    out: &mut Buffer,
 ) -> Turn {
     let mut input = io::large_buffer();
     let n = io::read_full(STDIN_FILENO, &mut input);
@@ -114,12 +115,12 @@ fn more(
 // The last line may lack byte 10.
 fn last(
     p: Play,
-    line: &[u8; 65536],
-    memory: &mut [u8; 65536],
-    staging: &mut [u8; 65536],
-    card: &mut [u8; 65536],
-    text: &mut [u8; 65536],
-    out: &mut [u8; 65536],
+    line: &Buffer,
+    memory: &mut Buffer,
+    staging: &mut Buffer,
+    card: &mut Buffer,
+    text: &mut Buffer,
+    out: &mut Buffer,
 ) {
     let mut play = p;
     if 0 < play.held {
@@ -129,12 +130,12 @@ fn last(
 }
 
 pub(crate) fn all(
-    line: &mut [u8; 65536],
-    memory: &mut [u8; 65536],
-    staging: &mut [u8; 65536],
-    card: &mut [u8; 65536],
-    text: &mut [u8; 65536],
-    out: &mut [u8; 65536],
+    line: &mut Buffer,
+    memory: &mut Buffer,
+    staging: &mut Buffer,
+    card: &mut Buffer,
+    text: &mut Buffer,
+    out: &mut Buffer,
 ) {
     let session = Session::fresh();
     let mut play = Play {

@@ -1,6 +1,5 @@
 -- `session::Session::played` meets its contract. Assumes nothing.
 use Rattle.session.proofs.SessionLaws.{called-answers, bad-answers}
-use Rattle.script.proofs.FormLaws.{coded}
 use Rattle.session.specs.Sessions.{played}
 use borrow.Author.Needs.{needs}
 use Rattle.session.proofs.Session.played.Statement.{statement}
@@ -12,11 +11,11 @@ returns c = simp (c .before .before .before .before .before .before .before .l .
 
 returns-2 : tie.Need-returns-2
 unfolding played
-returns-2 c = simp (c .before .before .before .before .before .before .before .before .enum-told .given .1, ← c .before .before .before .before .before .before .before .before .before .before .front .ensures, ← c .before .before .before .before .before .before .before .field .ensures .0, ← c .before .before .before .before .before .before .field2 .ensures .0) (called-answers _ _ _ _ _ _ _ _ _ _ _ _ (c .before .write .ensures) (c .called2 .ensures .0) (c .called2 .ensures .1))
+returns-2 c = simp (c .before .before .before .before .before .before .enum-told .given .1, ← c .before .before .before .before .before .before .before .before .front .ensures) (called-answers _ _ _ _ _ _ _ _ _ _ _ _ (c .before .write .ensures) (c .called2 .ensures .0) (c .called2 .ensures .1))
 
 returns-3 : tie.Need-returns-3
 unfolding played
-returns-3 c = simp (c .before .before .before .before .before .before .before .before .l2 .given .1, ← c .before .before .before .before .before .before .before .before .before .before .front .ensures, ← c .before .before .before .before .before .before .field3 .ensures .0) (called-answers _ _ _ _ _ _ _ _ _ _ _ _ (c .before .«open» .ensures) (c .called3 .ensures .0) (c .called3 .ensures .1))
+returns-3 c = simp (c .before .before .before .before .before .before .before .l2 .given .1, ← c .before .before .before .before .before .before .before .before .before .front .ensures) (called-answers _ _ _ _ _ _ _ _ _ _ _ _ (c .before .«open» .ensures) (c .called3 .ensures .0) (c .called3 .ensures .1))
 
 returns-4 : tie.Need-returns-4
 unfolding played
@@ -24,7 +23,7 @@ returns-4 c = simp (c .before .before .before .before .before .before .before .l
 
 returns-5 : tie.Need-returns-5
 unfolding played
-returns-5 c = simp (c .before .before .before .before .before .before .before .before .enum-told2 .given .1, ← c .before .before .before .before .before .before .before .before .before .before .front .ensures, ← c .before .before .before .before .before .before .before .field4 .ensures .0) (called-answers _ _ _ _ _ _ _ _ _ _ _ _ (simp (coded _ _ (c .before .before .before .before .before .before .code-of .ensures)) at (c .before .turn-over .ensures)) (c .called5 .ensures .0) (c .called5 .ensures .1))
+returns-5 c = simp (c .before .before .before .before .before .before .enum-told2 .given .1, ← c .before .before .before .before .before .before .before .before .front .ensures) (called-answers _ _ _ _ _ _ _ _ _ _ _ _ (c .before .turn-over .ensures) (c .called5 .ensures .0) (c .called5 .ensures .1))
 
 returns-6 : tie.Need-returns-6
 unfolding played
@@ -41,18 +40,13 @@ played-spec =
     (λ c. search needs)
     (λ c κs. search needs)
     (λ c κs. search needs)
-    (λ c κs. search needs)
-    (λ c κs. search needs)
-    (λ c. search needs)
-    (λ c κs. search needs)
-    (λ c κs. search needs)
-    (λ c κs. search needs)
     (λ c. search needs)
     (λ c κs. search needs)
     (λ c κs. search needs)
     (λ c. search needs)
     (λ c κs. search needs)
     (λ c κs. search needs)
+    (λ c. search needs)
     (λ c κs. search needs)
     (λ c κs. search needs)
     (λ c. search needs)
