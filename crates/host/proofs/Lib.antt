@@ -1,4 +1,3 @@
-pub mod BufferLaws
 pub mod StageLaws
 pub mod EndingLaws
 pub mod PagingLaws

@@ -5,13 +5,11 @@ use mathlib.Core.List.{List, [], _∷_}
 use Prim.Native.Nat.{ℕ}
 use lib.Dec.{eqb}
 use lib.ListN.{length}
-use Rattle.le.specs.Le.{leAt}
-use Rattle.le.specs.Splice.{part, splice, zeros}
+use Rattle.le.specs.Splice.{zeros}
 use Rattle.weave.specs.declared.Code.{Code}
 use Rattle.weave.specs.declared.Code.the-variants.{Denied, NotNow, Bad}
-use Rattle.weave.specs.declared.Weave.{Weave}
 use Rattle.weave.specs.Codes.{isFine, need, firstOf}
-use Rattle.weave.specs.States.{begunWeave}
+use Rattle.takes.specs.Begun.{begun}
 use Rattle.host.specs.declared.Host.{Host}
 use Rattle.host.specs.declared.Answer.{Answer}
 use Rattle.host.specs.Hosts.{Lent, withWeave, lentCheck}
@@ -24,16 +22,6 @@ beginCheck l h args =
     ∷ need (not (h .faulted)) Denied  -- 3
     ∷ need (eqb (length args) 128) Bad  -- 4
     ∷ [])
-
--- a number of the arguments, 0 where they are not 128 bytes
-unfoldable pub argAt : List ℕ → ℕ → ℕ
-argAt args off = cond (eqb (length args) 128) (leAt 8 args off) 0
-
-unfoldable pub traceOf : List ℕ → List ℕ
-traceOf args = splice (zeros 32) 0 (part 56 32 args)
-
-unfoldable pub begun : List ℕ → Weave
-begun args = begunWeave (argAt args 24) (record { 0 = argAt args 48 }) (traceOf args)
 
 unfoldable pub beginAnswer : Lent → Host → List ℕ → Answer
 beginAnswer l h args =

@@ -2,6 +2,7 @@ pub mod Hosts
 pub mod Cursors
 pub mod Begin
 pub mod Stage
+pub mod Fates
 pub mod Ending
 pub mod Mount
 pub mod Paging

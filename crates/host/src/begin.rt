@@ -1,56 +1,17 @@
 // begin.
 ghost use mathlib.Core.Path.{_≡_};
 ghost use mathlib.Core.Bool.{cond};
-ghost use Prim.Native.Nat.{_+_, _≤_};
-ghost use lib.ListN.{length};
-ghost use Rattle.le.specs.Splice.{zeros};
 ghost use Rattle.host.specs.Hosts.{lentAs};
-ghost use Rattle.host.specs.Begin.{argAt, traceOf, begun, beginAnswer, beginStaging};
+ghost use Rattle.host.specs.Begin.{beginAnswer, beginStaging};
+ghost use Rattle.takes.specs.Begun.{begun};
 use crate::Answer;
 use crate::Host;
 use crate::state::lengths_of;
 use manifest::Manifest;
-use record::VirtualTime;
+use takes::begun::begun;
+use takes::buffers::clear_if;
 use weave::Code;
-use weave::Weave;
 use weave::codes::need;
-
-fn arg_at(args: &[u8], off: usize) -> u64
-    requires { ⌜ off + 8 ≤ 128 ⌝ }
-    ensures { λ r. ⌜ r ≡ argAt (now (args .entry)) off ⌝ }
-{
-    if args.len() == 128 {
-        return le::read_u64(args, off);
-    }
-    0
-}
-
-fn trace_of(args: &[u8]) -> [u8; 32]
-    ensures { λ r. ⌜ r ≡ traceOf (now (args .entry)) ⌝ }
-{
-    let mut trace = [0u8; 32];
-    le::copy_at(le::cut(args, 56, 32), &mut trace, 0);
-    trace
-}
-
-fn begun(args: &[u8]) -> Weave
-    ensures { λ r. ⌜ r ≡ begun (now (args .entry)) ⌝ }
-{
-    let most = arg_at(args, 24);
-    let time = arg_at(args, 48);
-    let trace = trace_of(args);
-    Weave::begun(most, VirtualTime(time), trace)
-}
-
-// All 0 where t holds, else as it was.
-pub(crate) fn clear_if(t: bool, s: &mut [u8])
-    ensures { λ _. ⌜ now (s .exit) ≡ cond t (zeros (length (now (s .entry)))) (now (s .entry)) ⌝ }
-{
-    if t {
-        let n = s.len();
-        le::zero_range(s, 0, n);
-    }
-}
 
 // One of two states.
 pub(crate) fn choose(t: bool, a: Host, b: Host) -> Host

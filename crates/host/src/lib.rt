@@ -4,7 +4,7 @@ pub mod cursors;
 pub mod ending;
 pub mod mount;
 pub mod next;
-pub mod page;
+pub mod outcome;
 pub mod read;
 pub mod stage;
 pub mod state;

@@ -1,7 +1,8 @@
 -- Every case of the table holds: one test that antt computes over the whole table, and one law that turns it into the cases.
 -- Assumes nothing.
 use mathlib.Core.Path.{_≡_, refl, sym, ap, _∙_}
-use mathlib.Core.Bool.{Bool, true, false, _&&_, Bool·beq}
+use mathlib.Core.Bool.{Bool, true, false, not, _&&_, Bool·beq}
+use lib.IntN.{ℤ}
 use mathlib.Core.List.{List, [], _∷_}
 use Prim.Native.Nat.{ℕ, zero, suc, _<_}
 use native.Mathlib.Nat.{not-suc-le-zero, le-of-suc-le-suc}
@@ -28,7 +29,12 @@ use Rattle.card.specs.declared.Page.{Page}
 use Rattle.card.specs.declared.Page.the-variants.{End, Short, Bytes}
 use Rattle.weave.specs.declared.Code.{Code}
 use Rattle.weave.specs.declared.Code.the-variants.{Fine, Denied, NotNow, Unsound, NoRoom, Bad, Budget, BadValue}
-use Rattle.weave.specs.Codes.{reasonOf}
+use Rattle.weave.specs.declared.Spoiled.the-variants.{Not}
+use Rattle.weave.specs.Codes.{isFine, first, reasonOf}
+use Rattle.host.specs.declared.Host.{Host}
+use Rattle.host.specs.declared.Fate.the-variants.{Discarded}
+use Rattle.host.specs.Hosts.{Lent}
+use Rattle.host.specs.Ending.{returnCheck, whyNot, fateOf}
 use Rattle.promises.specs.Edges.{Case, total, stored, flags, span, float, topic, text, page, returned, twoTakes, cursorOver, Holds, edges}
 
 -- ---- answers that are found the same are equal
@@ -90,6 +96,16 @@ same-code c d t = sym (at-place c) ∙ ap at (eqb→eq (place c) (place d) t) �
 
 -- ---- the table
 
+untrue : (b : Bool) → T (not b) → b ≡ false
+untrue true t = absurd t
+untrue false t = refl
+
+-- a return whose code is a reason discards with it
+discards : (l : Lent) (h : Host) (code : ℤ) (c : Code) → isFine (returnCheck l h) ≡ true → h .weave .spoiled .0 ≡ Not → reasonOf code ≡ c → isFine c ≡ false
+    → fateOf l h code ≡ Discarded c
+unfolding fateOf whyNot first
+discards l h code c f u e n = rw (f, u, e, n)
+
 test : Case → Bool
 test (total t d n) = eqb (totalLen t d) n
 test (stored m p n) = eqb (length (payload m p)) n
@@ -99,7 +115,7 @@ test (float x n) = eqb (canonical x) n
 test (topic s b) = Bool·beq (goodTopic s) b
 test (text s b) = Bool·beq (utf8 s) b
 test (page from to limit cap p) = samePage (pageOf cap (listOf (λ (t : List ℕ). true) (cursorOver from to limit) twoTakes)) p
-test (returned code c) = sameCode (reasonOf code) c
+test (returned code c) = not (isFine c) && sameCode (reasonOf code) c
 
 met : (c : Case) → T (test c) → Holds c
 unfolding test
@@ -111,7 +127,7 @@ met (float x n) p = eqb→eq (canonical x) n p
 met (topic s b) p = same-answer (goodTopic s) b p
 met (text s b) p = same-answer (utf8 s) b p
 met (page from to limit cap q) p = same-page (pageOf cap (listOf (λ (t : List ℕ). true) (cursorOver from to limit) twoTakes)) q p
-met (returned code c) p = same-code (reasonOf code) c p
+met (returned code c) p = λ l h f u. discards l h code c f u (same-code (reasonOf code) c (right (not (isFine c)) (sameCode (reasonOf code) c) p)) (untrue (isFine c) (left (not (isFine c)) (sameCode (reasonOf code) c) p))
 
 every : List Case → Bool
 every [] = true

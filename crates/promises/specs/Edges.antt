@@ -22,7 +22,12 @@ use Rattle.card.specs.declared.Page.{Page}
 use Rattle.card.specs.declared.Page.the-variants.{End, Short, Bytes}
 use Rattle.weave.specs.declared.Code.{Code}
 use Rattle.weave.specs.declared.Code.the-variants.{Bad}
-use Rattle.weave.specs.Codes.{reasonOf}
+use Rattle.weave.specs.declared.Spoiled.the-variants.{Not}
+use Rattle.weave.specs.Codes.{isFine}
+use Rattle.host.specs.declared.Host.{Host}
+use Rattle.host.specs.declared.Fate.the-variants.{Discarded}
+use Rattle.host.specs.Hosts.{Lent}
+use Rattle.host.specs.Ending.{returnCheck, fateOf}
 
 -- a case: what is asked, and the answer last
 pub data Case : Type 0 where
@@ -52,7 +57,7 @@ cursorOver from′ to′ limit′ = record { filter = zeros 64; size = 0; from =
 
 -- what a case says: the total_len of a topic and a payload of these lengths; the data_len of the value at p of memory m; good flags; a span inside; a
 -- float's bits as they are stored (`float-canonical` of value's proofs/ScalarLaws.antt ties `canonical` to the code's float); a good topic; UTF-8; what the first next of a cursor
--- with this window, limit and capacity finds over two takes; what a return code means
+-- with this window, limit and capacity finds over two takes; what becomes of a weave that is not spoiled by a return with this code, whatever the box
 abbrev pub Holds : Case → Type 0
 Holds (total t d n) = totalLen t d ≡ n
 Holds (stored m p n) = length (payload m p) ≡ n
@@ -62,7 +67,8 @@ Holds (float x n) = canonical x ≡ n
 Holds (topic s b) = goodTopic s ≡ b
 Holds (text s b) = utf8 s ≡ b
 Holds (page from to limit cap p) = pageOf cap (listOf (λ (t : List ℕ). true) (cursorOver from to limit) twoTakes) ≡ p
-Holds (returned code c) = reasonOf code ≡ c
+Holds (returned code c) =
+    (l : Lent) (h : Host) → isFine (returnCheck l h) ≡ true → h .weave .spoiled .0 ≡ Not → fateOf l h code ≡ Discarded c
 
 -- a memory with a string at 8, and the string's 3 bytes, `abc`, behind its 32
 abbrev string3 : List ℕ

@@ -1,1 +1,7 @@
+pub mod Box
+pub mod Refusal
+pub mod Outcome
+pub mod Diary
+pub mod Turn
+pub mod ReadBack
 pub mod Edges

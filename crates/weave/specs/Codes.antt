@@ -33,6 +33,17 @@ isFine Bad = false
 isFine Budget = false
 isFine BadValue = false
 
+-- the one refusal that marks the weave
+abbrev pub isBudget : Code → Bool
+isBudget Fine = false
+isBudget Denied = false
+isBudget NotNow = false
+isBudget Unsound = false
+isBudget NoRoom = false
+isBudget Bad = false
+isBudget Budget = true
+isBudget BadValue = false
+
 -- a check: the code where the test fails
 unfoldable pub need : Bool → Code → Code
 need t c = cond t Fine c

@@ -3,6 +3,7 @@ ghost use mathlib.Core.Path.{_≡_};
 ghost use Prim.Native.Nat.{_+_, _≤_};
 ghost use lib.ListN.{length};
 ghost use Rattle.weave.specs.Args.{recordFine, fieldAt, writeArgs, readArgs, openArgs, nextArgs, bytesAt, topicFine, filterFine, outFine, payloadFine, filterBytes};
+use text::limits::Limits;
 use value::Span;
 
 pub struct WriteArgs {
@@ -198,6 +199,6 @@ pub fn filter_bytes(m: &[u8], s: Span) -> [u8; 64]
     ensures { λ r. ⌜ r ≡ filterBytes (now (m .entry)) s ⌝ }
 {
     let mut kept = [0u8; 64];
-    le::copy_at(le::front(bytes_at(m, s), 64), &mut kept, 0);
+    le::copy_at(le::front(bytes_at(m, s), Limits::FILTER), &mut kept, 0);
     kept
 }

@@ -7,6 +7,7 @@ use crate::Weave;
 use crate::codes::need;
 use crate::sums::within;
 use crate::table::find_slot;
+use card::Cursor;
 use record::EventId;
 
 impl Lengths {
@@ -64,14 +65,14 @@ impl Weave {
         ensures { λ r. ⌜ r ≡ handleFine self k ⌝ }
     {
         let slots = self.slots;
-        (0 < k) & (find_slot(slots, k) < 4)
+        (0 < k) & (find_slot(slots, k) < Cursor::OPEN)
     }
 
     pub fn slot_fine(self) -> bool
         ensures { λ r. ⌜ r ≡ slotFine self ⌝ }
     {
         let slots = self.slots;
-        (find_slot(slots, 0) < 4) & (self.opened < 65535)
+        (find_slot(slots, 0) < Cursor::OPEN) & (self.opened < Cursor::OPENED)
     }
 
     pub fn budget_check(self, charge: u64) -> Code

@@ -1,0 +1,38 @@
+//! The other side: the same operations in plain Rust, written as one would write them, with the same checks of document 01
+//! in the same order as far as these calls meet them. Nothing is left out that the proved host does: the manifest is read at
+//! every call, next and the last return walk all the records they speak of.
+mod bytes;
+mod calls;
+mod manifest;
+mod records;
+mod turns;
+
+#[derive(Clone, Copy)]
+pub struct Plain {
+    pub used: usize,
+    pub next: u64,
+    lengths: [usize; 3],
+    running: bool,
+    spoiled: Option<i64>,
+    turn: u64,
+    late: bool,
+    staged: usize,
+    count: u64,
+    units: u64,
+    res_max: u64,
+    time: u64,
+    trace: [u8; 32],
+    opened: u64,
+    cursors: [Option<Cursor>; 4],
+}
+
+#[derive(Clone, Copy)]
+struct Cursor {
+    handle: u64,
+    filter: [u8; 64],
+    size: usize,
+    from: u64,
+    to: u64,
+    limit: u64,
+    down: bool,
+}

@@ -1,0 +1,3 @@
+pub mod CrossingLaws
+pub mod PlaceLaws
+pub mod ThereAndBack

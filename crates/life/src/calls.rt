@@ -1,0 +1,151 @@
+// The five module calls, and what the host itself does: mount, begin, ingress, return, look-up. Each says what is answered, and gives the next state.
+ghost use mathlib.Core.Path.{_≡_};
+ghost use lib.ListN.{length};
+use crate::lay::DATA;
+use crate::lay::TOPIC;
+use crate::lay::word_at;
+use crate::pages;
+use crate::say;
+use crate::words;
+use crate::words::number;
+use host::Answer;
+use host::Fate;
+use host::Host;
+use record::EventId;
+
+// Where a read (2) or a next (4) puts its page.
+fn out_of(k: usize, memory: &[u8], at: u64) -> usize {
+    let a = at as usize;
+    if 1048576 < a {
+        return 0;
+    }
+    if k == 2 {
+        return word_at(memory, a + 24) as usize;
+    }
+    word_at(memory, a + 8) as usize
+}
+
+// 0 write, 1 value, 2 read, 3 open, 4 next, 5 close: with its arguments at `at`.
+fn answered(
+    h: Host,
+    k: usize,
+    memory: &mut [u8],
+    staging: &mut [u8],
+    card: &[u8],
+    text: &[u8],
+    at: u64,
+) -> Answer {
+    match k {
+        2 => h.read(memory, staging, card, text, at),
+        3 => h.open(memory, staging, card, text, at),
+        4 => h.next(memory, staging, card, text, at),
+        5 => h.close(memory, staging, card, text, at),
+        _ => h.write(memory, staging, card, text, at),
+    }
+}
+
+pub(crate) fn by_module(
+    h: Host,
+    k: usize,
+    memory: &mut [u8],
+    staging: &mut [u8],
+    card: &[u8],
+    text: &[u8],
+    at: u64,
+) -> Host {
+    let out = out_of(k, memory, at);
+    let a = answered(h, k, memory, staging, card, text, at);
+    let c = a.code;
+    say::answer(c, a.value);
+    if (k == 2) | (k == 4) {
+        pages::events(memory, out, a.value as usize);
+    }
+    a.host
+}
+
+// ingress topic payload: as they lie in memory.
+pub(crate) fn ingress(
+    h: Host,
+    memory: &[u8],
+    staging: &mut [u8],
+    card: &[u8],
+    text: &[u8],
+) -> Host {
+    let topic = le::cut(memory, TOPIC, word_at(memory, 16) as usize);
+    let payload = le::cut(memory, DATA, word_at(memory, 32) as usize);
+    let a = h.ingress(staging, card, text, topic, payload);
+    let c = a.code;
+    say::answer(c, a.value);
+    a.host
+}
+
+// mount used
+pub(crate) fn mount(l: &[u8], staging: &[u8], card: &[u8], text: &[u8]) -> Host {
+    let m = Host::mount(staging, card, text, number(l, 1) as usize);
+    let c = m.code;
+    say::answer(c, 0);
+    say::word(b" at");
+    say::number(m.at as u64);
+    m.host
+}
+
+// begin most time [length]: what begin does not use is 0xEE.
+fn begin_args(l: &[u8]) -> [u8; 136]
+    ensures { λ r. ⌜ 136 ≡ length r ⌝ }
+{
+    let mut args = [0xEEu8; 136];
+    le::put_u64(&mut args, 24, number(l, 1));
+    le::put_u64(&mut args, 48, number(l, 2));
+    args
+}
+
+pub(crate) fn begin(h: Host, l: &[u8], staging: &mut [u8], card: &[u8], text: &[u8]) -> Host {
+    let args = begin_args(l);
+    let size = words::number_or(l, 3, 128) as usize;
+    let a = h.begin(staging, card, text, le::front(&args, size));
+    let c = a.code;
+    say::answer(c, a.value);
+    a.host
+}
+
+fn say_fate(f: Fate) {
+    match f {
+        Fate::Refused(c) => say::answer(c, 0),
+        Fate::Discarded(c) => {
+            say::word(b" discarded");
+            say::answer(c, 0);
+        }
+        Fate::Running => say::word(b" running"),
+        Fate::Committed {
+            events: e,
+            bytes: b,
+        } => {
+            say::word(b" committed");
+            say::number(e);
+            say::number(b as u64);
+        }
+    }
+}
+
+// return code
+pub(crate) fn ending(h: Host, l: &[u8], staging: &mut [u8], card: &mut [u8], text: &[u8]) -> Host {
+    let r = h.module_return(staging, card, text, words::returned(l));
+    let f = r.fate;
+    say_fate(f);
+    r.host
+}
+
+// lookup id: how long the record is, its own number, and the sum of its bytes.
+pub(crate) fn look_up<'a>(h: Host, l: &[u8], staging: &'a [u8], card: &'a [u8], text: &[u8]) {
+    let id = EventId(number(l, 1));
+    let r = h.look_up(staging, card, text, id);
+    if r.len() == 0 {
+        say::word(b" none");
+        return;
+    }
+    say::number(r.len() as u64);
+    say::word(b" bytes, id");
+    say::number(word_at(r, 8));
+    say::word(b", sum");
+    say::number(words::sum(r));
+}

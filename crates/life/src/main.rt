@@ -1,0 +1,37 @@
+// Whole lives of a box, call by call. Each line of the input is a step: it is written again, with what the host answers and all that changed.
+// `stdout` was made from document 01 by other means than this program.
+mod calls;
+mod hand;
+mod lay;
+mod pages;
+mod say;
+mod script;
+mod show;
+mod state;
+mod words;
+
+ghost use mathlib.Core.Path.{_≡_};
+ghost use lib.ListN.{length};
+
+// More than a memory or a staging buffer may have.
+fn large() -> [u8; 1048584]
+    ensures { λ r. ⌜ 1048584 ≡ length r ⌝ }
+{
+    [0; 1048584]
+}
+
+fn main() {
+    let mut text = io::large_buffer();
+    let n = io::read_full(0, &mut text);
+    let mut memory = large();
+    let mut staging = large();
+    let mut card = io::large_buffer();
+    let mut manifest = io::large_buffer();
+    script::each(
+        &text[..n],
+        &mut memory,
+        &mut staging,
+        &mut card,
+        &mut manifest,
+    );
+}

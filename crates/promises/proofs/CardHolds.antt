@@ -1,0 +1,160 @@
+-- Promise 2: a commit appends exactly the staged bytes, and nothing else changes the card; a discard leaves card and state as before begin.
+-- Assumes nothing.
+use mathlib.Core.Path.{_≡_, refl, sym, ap, _∙_}
+use mathlib.Core.Bool.{Bool, true, false, cond, true≢false}
+use mathlib.Core.List.{List, [], _∷_}
+use Prim.Native.Nat.{ℕ, _^_}
+use native.Mathlib.Omega.{arith}
+use lib.IntN.{ℤ}
+use lib.ListN.{length, take}
+use lib.Seq.{length-take-le}
+use Rattle.le.specs.Splice.{part, splice, zeros}
+use Rattle.le.proofs.SpliceLaws.{splice-nil, part-of-splice}
+use Rattle.weave.specs.declared.Code.{Code}
+use Rattle.weave.specs.declared.Code.the-variants.{Fine}
+use Rattle.weave.specs.declared.Spoiled.the-variants.{Overspent}
+use Rattle.weave.specs.Codes.{isFine, isBudget}
+use Rattle.weave.specs.States.{freshWeave, spoilt}
+use Rattle.weave.proofs.SumLaws.{added-sum}
+use Rattle.takes.specs.Begun.{begun}
+use Rattle.host.specs.declared.Host.{Host}
+use Rattle.host.specs.declared.Answer.{Answer}
+use Rattle.host.specs.declared.Fate.{Fate}
+use Rattle.host.specs.declared.Fate.the-variants.{Refused, Discarded, Running, Committed}
+use Rattle.host.specs.Hosts.{Lent, lentAs, withWeave, refused, settle}
+use Rattle.host.specs.Begin.{beginCheck, beginAnswer}
+use Rattle.host.specs.Stage.{ingressAnswer, isPanic, panicked, written, writeAnswer}
+use Rattle.host.specs.Reading.{readAnswer}
+use Rattle.host.specs.Cursors.{openNext, openAnswer, closeNext, closeAnswer}
+use Rattle.host.specs.Paging.{nextHost, nextAnswer}
+use Rattle.host.specs.Fates.{kept, ends}
+use Rattle.host.specs.Ending.{fateOf, committed, finished, returnAnswer, returnCard, returnStaging}
+use Rattle.promises.specs.Box.{World, Op, Begin, Ingress, Write, Read, Open, Next, Close, Return, LookUp, Ended, step, run}
+use Rattle.promises.specs.Outcome.{SameCard, saysCommitted, NoneCommitted, Appended, butFaulted}
+use Rattle.promises.proofs.RefusalHolds.{laid-there}
+use Rattle.promises.proofs.AcceptedLaws.{lawful}
+use Rattle.promises.proofs.OutcomeHolds.{fateIn, conditions}
+
+-- ---- a state whose weave alone may differ
+
+same-weave : (w : World) (h : Host) (staging : List ℕ) → h .lengths ≡ w .host .lengths → h .used ≡ w .host .used → h .next ≡ w .host .next
+    → SameCard w (record { host = h; lent = lentAs staging (w .lent .card) (w .lent .text) })
+same-weave w h staging l u n = record { card = refl; text = refl; lengths = l; used = u; next = n }
+
+-- a call that ends in `settle`: it is so of the next state
+module _ (h : Host) (c : Code) (v : ℕ) (next′ : Host) where
+  abbrev Kept : Host → Type 0
+  Kept g = (g .lengths ≡ h .lengths) × ((g .used ≡ h .used) × (g .next ≡ h .next))
+
+  settle-kept : Kept next′ → Kept (settle h c v next′ .host)
+  unfolding settle refused withWeave spoilt
+  settle-kept k = go (isFine c) (isBudget c)
+    where
+      go : (t b : Bool) → Kept ((cond {A = Answer} t (record { code = Fine; value = v; host = next′ }) (record { code = c; value = 0; host = cond b (withWeave h (spoilt (h .weave) Overspent)) h })) .host)
+      go true b = k
+      go false true = (refl, (refl, refl))
+      go false false = (refl, (refl, refl))
+
+-- ---- nothing but a commit changes the card
+
+module _ (w : World) where
+  abbrev l : Lent
+  l = w .lent
+
+  abbrev h : Host
+  h = w .host
+
+  same-by : (staging : List ℕ) (g : Host) → (g .lengths ≡ h .lengths) × ((g .used ≡ h .used) × (g .next ≡ h .next))
+      → SameCard w (record { host = g; lent = lentAs staging (l .card) (l .text) })
+  same-by staging g k = same-weave w g staging (k .0) (k .1 .0) (k .1 .1)
+
+  begin-kept : (args : List ℕ) → (beginAnswer l h args .host .lengths ≡ h .lengths) × ((beginAnswer l h args .host .used ≡ h .used) × (beginAnswer l h args .host .next ≡ h .next))
+  unfolding beginAnswer withWeave
+  begin-kept args = go (isFine (beginCheck l h args))
+    where
+      go : (t : Bool) → (cond t (withWeave h (begun args)) h .lengths ≡ h .lengths) × ((cond t (withWeave h (begun args)) h .used ≡ h .used) × (cond t (withWeave h (begun args)) h .next ≡ h .next))
+      go true = (refl, (refl, refl))
+      go false = (refl, (refl, refl))
+
+  written-kept : (p : Bool) (t d n : ℕ) → (written h p t d n .lengths ≡ h .lengths) × ((written h p t d n .used ≡ h .used) × (written h p t d n .next ≡ h .next))
+  unfolding written panicked withWeave
+  written-kept true t d n = (refl, (refl, refl))
+  written-kept false t d n = (refl, (refl, refl))
+
+  fate-same : (f : Fate) → saysCommitted (Ended f) ≡ false
+      → SameCard w (record { host = finished h f; lent = lentAs (cond (ends f) (zeros (length (l .staging))) (l .staging)) (splice (l .card) (h .used) (take (kept f) (l .staging))) (l .text) })
+  unfolding finished withWeave
+  fate-same (Refused c) e = record { card = splice-nil (l .card) (h .used); text = refl; lengths = refl; used = refl; next = refl }
+  fate-same (Discarded c) e = record { card = splice-nil (l .card) (h .used); text = refl; lengths = refl; used = refl; next = refl }
+  fate-same Running e = record { card = splice-nil (l .card) (h .used); text = refl; lengths = refl; used = refl; next = refl }
+  fate-same (Committed events bytes) e = absurd (true≢false e)
+
+  -- THE PROMISE: the card changes only where committed is said
+  pub only-commit : (o : Op) → saysCommitted (step w o .said) ≡ false → SameCard w (step w o .world)
+  unfolding step ingressAnswer writeAnswer readAnswer openAnswer nextAnswer closeAnswer returnAnswer returnCard returnStaging withWeave openNext nextHost closeNext
+  only-commit (Begin args) e = same-by _ _ (begin-kept args)
+  only-commit (Ingress topic payload) e = same-by _ _ (settle-kept h _ _ _ (refl, (refl, refl)))
+  only-commit (Write m a) e = same-by _ _ (settle-kept h _ _ _ (written-kept (isPanic m a) _ _ _))
+  only-commit (Read m a) e = same-by _ _ (settle-kept h _ _ _ (refl, (refl, refl)))
+  only-commit (Open m a) e = same-by _ _ (settle-kept h _ _ _ (refl, (refl, refl)))
+  only-commit (Next m a) e = same-by _ _ (settle-kept h _ _ _ (refl, (refl, refl)))
+  only-commit (Close m a) e = same-by _ _ (settle-kept h _ _ _ (refl, (refl, refl)))
+  only-commit (Return code) e = fate-same (fateOf l h code) e
+  only-commit (LookUp id) e = record { card = refl; text = refl; lengths = refl; used = refl; next = refl }
+
+  -- ---- a commit
+
+  fate-appends : (code : ℤ) (events bytes : ℕ) → fateOf l h code ≡ Committed events bytes → Appended w (step w (Return code) .world)
+  unfolding step returnAnswer returnCard returnStaging finished committed
+  fate-appends code events bytes q =
+      let c = conditions l h code events bytes q in
+      let law = lawful l h (c .0 .check-1) in
+      let long = length-take-le (h .weave .staged) (l .staging) (law .staged) in
+      rw (q, c .1 .0, c .1 .1)
+      (record {
+        used = added-sum (h .used) (h .weave .staged) (h .lengths .card) (omega (arith, c .0 .fits, law .card-long));
+        next = added-sum (h .next .0) (h .weave .count) (2 ^ 63) (law .numbers);
+        bytes =
+            ap (λ (n : ℕ). part (h .used) n (splice (l .card) (h .used) (take (h .weave .staged) (l .staging)))) (sym long)
+            ∙ part-of-splice (l .card) (h .used) (take (h .weave .staged) (l .staging)) (omega (arith, long, c .0 .fits));
+        others = laid-there (l .card) (h .used) (take (h .weave .staged) (l .staging)) (h .weave .staged) long;
+        weave = refl;
+        staging = refl;
+      })
+
+  -- THE PROMISE: where committed is said, exactly the staged bytes were appended
+  pub commit-appends : (code : ℤ) (events bytes : ℕ) → step w (Return code) .said ≡ Ended (Committed events bytes) → Appended w (step w (Return code) .world)
+  unfolding step returnAnswer
+  commit-appends code events bytes e = fate-appends code events bytes (ap fateIn e)
+
+-- ---- a discard
+
+same-trans : (a b c : World) → SameCard a b → SameCard b c → SameCard a c
+same-trans a b c s t = record {
+  card = t .card ∙ s .card;
+  text = t .text ∙ s .text;
+  lengths = t .lengths ∙ s .lengths;
+  used = t .used ∙ s .used;
+  next = t .next ∙ s .next;
+}
+
+pub same-run : (os : List Op) (w : World) → NoneCommitted w os → SameCard w (run w os)
+same-run [] w n = record { card = refl; text = refl; lengths = refl; used = refl; next = refl }
+same-run (o ∷ os) w n = same-trans w (step w o .world) (run (step w o .world) os) (only-commit w o (n .0)) (same-run os (step w o .world) (n .1))
+
+-- what a discard leaves of the box just before it
+discard-left : (w : World) (code : ℤ) (c : Code) → fateOf (w .lent) (w .host) code ≡ Discarded c
+    → (step w (Return code) .world .host ≡ withWeave (w .host) freshWeave) × (step w (Return code) .world .lent .card ≡ w .lent .card)
+unfolding step returnAnswer returnCard finished
+discard-left w code c q = (rw q, rw q (splice-nil (w .lent .card) (w .host .used)))
+
+-- THE PROMISE: from a box with no weave, through any calls none of which says committed, to a discard: the card and the state are as they were, but for faulted
+pub discard-restores : (w : World) → w .host .weave ≡ freshWeave → (os : List Op) → NoneCommitted w os → (code : ℤ) (c : Code)
+    → step (run w os) (Return code) .said ≡ Ended (Discarded c)
+    → (step (run w os) (Return code) .world .lent .card ≡ w .lent .card)
+    × (step (run w os) (Return code) .world .host ≡ butFaulted (w .host) (run w os .host .faulted))
+unfolding step returnAnswer withWeave
+discard-restores w fresh os n code c e =
+    let s = same-run os w n in
+    let d = discard-left (run w os) code c (ap fateIn e) in
+    (d .1 ∙ s .card, d .0 ∙ rw (s .lengths, s .used, s .next, fresh))

@@ -1,0 +1,297 @@
+-- Promise 3, as it was given: from any box that a mount and any calls lead to, for a cursor that an open answers, through any calls of the turn.
+-- Assumes nothing.
+use mathlib.Core.Path.{_≡_, refl, sym, ap, _∙_}
+use mathlib.Core.Bool.{true, false, true≢false}
+use mathlib.Core.List.{List, [], _∷_, _++_, append-assoc}
+use mathlib.Core.Logic.{_↔_}
+use Prim.Native.Nat.{ℕ, suc, _+_, _≤_, _<_}
+use native.Mathlib.Omega.{arith}
+use borrow.Author.Tests.{eq-eqb, eqb-true, ltb-true, leb-true, leb-false}
+use lib.Dec.{leb, ltb}
+use lib.ListN.{length, take, getD, set, length-append}
+use Rattle.le.proofs.TestLaws.{and-left, and-right, Tested, passes, fails, tested}
+use Rattle.manifest.specs.Saying.{mayRead}
+use Rattle.record.proofs.GoodLaws.{good-long}
+use Rattle.card.specs.Pick.{All}
+use Rattle.card.specs.Records.{records, size}
+use Rattle.card.specs.Listing.{listOf, fit, pageOf}
+use Rattle.card.specs.declared.Cursor.{Cursor}
+use Rattle.card.proofs.RecordsLaws.{records-good}
+use Rattle.card.proofs.ListingLaws.{listed-has}
+use Rattle.weave.specs.declared.Code.the-variants.{Fine}
+use Rattle.weave.specs.declared.Slot.{Slot}
+use Rattle.weave.specs.Codes.{isFine}
+use Rattle.weave.specs.Sums.{added}
+use Rattle.weave.specs.States.{paid, tabled}
+use Rattle.weave.specs.Args.{openArgs, nextArgs}
+use Rattle.weave.specs.Checks.{slotFine, budgetCheck}
+use Rattle.weave.specs.Table.{freeSlot, hasHandle, placeOf, slotOf}
+use Rattle.weave.proofs.CodeLaws.{first-left, first-right}
+use Rattle.weave.proofs.SumLaws.{added-sum}
+use Rattle.takes.specs.Opening.{opening}
+use Rattle.takes.specs.Pages.{pageBytes, pageCode, pageCharge}
+use Rattle.host.specs.Hosts.{withWeave, gateCheck, settle}
+use Rattle.host.specs.Cursors.{openCheck, openNext, openAnswer}
+use Rattle.host.specs.Paging.{nextSound, cursorOf, nextList, nextPage, nextCheck, nextAnswer}
+use Rattle.host.proofs.PagingLaws.{next-sound}
+use Rattle.promises.specs.Box.{World, Op, Begin, Ingress, Write, Read, Open, Next, Close, Return, LookUp, Answered, step, isRefused, run}
+use Rattle.promises.specs.Diary.{answerOf}
+use Rattle.promises.specs.Turn.{InTurn, givenBy, handedOver, listLeft, FirstPart, TidyIn, isNextOn, Nexts}
+use Rattle.promises.proofs.AcceptedLaws.{gate-running, settle-ok, open-slot, next-handle}
+use Rattle.promises.proofs.SlotLaws.{place-none, place-new, got-stored, length-stored}
+use Rattle.promises.proofs.TurnLaws.{own-handle, tidy-opened, Left, listing, shut, append-nil}
+use Rattle.promises.proofs.TurnHolds.{FollowedIn, handle-there, follow-step, follow-run}
+
+-- ---- a page is never empty but at the end
+
+abbrev Long : List ℕ → Type 0
+Long r = 136 ≤ length r
+
+all-at : (P : List ℕ → Type 0) (rs : List (List ℕ)) → ((k : ℕ) → k < length rs → P (getD rs k [])) → All P rs
+all-at P [] f = tt
+all-at P (r ∷ rs) f = (f 0 (omega arith), all-at P rs (λ k h. f (suc k) (omega arith)))
+
+records-long : (s : List ℕ) (id : ℕ) → All Long (records s id)
+records-long s id = all-at Long (records s id) (λ k h. good-long (getD (records s id) k []) (id + k) (records-good s id k h))
+
+pub left-long : (w : World) (k : ℕ) → All Long (listLeft w k)
+unfolding nextList
+left-long w k = listed-has Long (mayRead (w .lent .text) (w .host .weave .turn)) (cursorOf (w .host) k) _ (records-long (take (w .host .used) (w .lent .card)) 1)
+
+size-some : (cap : ℕ) (r : List ℕ) (t : List (List ℕ)) → leb (length r) cap ≡ true → length r ≤ size (fit cap (r ∷ t))
+unfolding fit
+size-some cap r t e = rw e (omega arith)
+
+fit-some : (cap : ℕ) (r : List ℕ) (t : List (List ℕ)) → leb (length r) cap ≡ true → 1 ≤ length (fit cap (r ∷ t))
+unfolding fit
+fit-some cap r t e = rw e (omega arith)
+
+-- what an accepted page of the list rs answers
+module _ (cap : ℕ) where
+  page-zero : (rs : List (List ℕ)) → All Long rs → isFine (pageCode (pageOf cap rs)) ≡ true → pageBytes (pageOf cap rs) ≡ 0 → rs ≡ []
+  unfolding pageOf
+  page-zero [] a c z = refl
+  page-zero (r ∷ t) a c z = go (tested (leb (length r) cap)) c z
+    where
+      go : Tested (leb (length r) cap) → isFine (pageCode (pageOf cap (r ∷ t))) ≡ true → pageBytes (pageOf cap (r ∷ t)) ≡ 0 → (r ∷ t) ≡ []
+      go (passes e) c z = absurd (omega (arith, rw e at z, size-some cap r t e, a .0))
+      go (fails e) c z = absurd (true≢false (sym (rw e at c)))
+
+  page-some : (rs : List (List ℕ)) → isFine (pageCode (pageOf cap rs)) ≡ true → (rs ≡ [] → ⊥) → 1 ≤ length (fit cap rs)
+  unfolding pageOf
+  page-some [] c n = absurd (n refl)
+  page-some (r ∷ t) c n = go (tested (leb (length r) cap)) c
+    where
+      go : Tested (leb (length r) cap) → isFine (pageCode (pageOf cap (r ∷ t))) ≡ true → 1 ≤ length (fit cap (r ∷ t))
+      go (passes e) c = fit-some cap r t e
+      go (fails e) c = absurd (true≢false (sym (rw e at c)))
+
+  zero-page : (rs : List (List ℕ)) → rs ≡ [] → pageBytes (pageOf cap rs) ≡ 0
+  unfolding pageOf
+  zero-page rs e = rw e
+
+nothing : (rs : List (List ℕ)) → length rs ≡ 0 → rs ≡ []
+nothing [] e = refl
+nothing (r ∷ rs) e = absurd (omega arith)
+
+-- ---- a next that isn't refused
+
+module _ (w : World) (m : List ℕ) (at : ℕ) (e : isRefused (step w (Next m at) .said) ≡ false) where
+  fine : isFine (nextCheck (w .lent) (w .host) m at) ≡ true
+  unfolding step nextAnswer
+  fine = settle-ok (w .host) (nextCheck (w .lent) (w .host) m at) _ _ e
+
+  page-is : nextPage (w .lent) (w .host) m at ≡ pageOf (nextArgs m at .out .len) (listLeft w (nextArgs m at .handle))
+  unfolding nextPage
+  page-is = rw (next-sound (w .lent) (w .host) m at fine)
+
+  page-fine : isFine (pageCode (pageOf (nextArgs m at .out .len) (listLeft w (nextArgs m at .handle)))) ≡ true
+  unfolding nextCheck
+  page-fine =
+      rw (← page-is)
+      (first-left (pageCode (nextPage (w .lent) (w .host) m at)) (budgetCheck (w .host .weave) (pageCharge (nextPage (w .lent) (w .host) m at))) (first-right (nextSound (w .lent) (w .host) m at) _ fine))
+
+  answer-is : answerOf (step w (Next m at) .said) ≡ pageBytes (pageOf (nextArgs m at .out .len) (listLeft w (nextArgs m at .handle)))
+  unfolding step nextAnswer settle
+  answer-is = rw (fine, page-is)
+
+  module _ (k : ℕ) (is : nextArgs m at .handle ≡ k) (whole out : List (List ℕ)) (f : FollowedIn w k whole out) where
+    left-is : out ++ listLeft w k ≡ whole
+    unfolding nextList cursorOf
+    left-is = go (f .left)
+      where
+        p : placeOf (hasHandle k) (w .host .weave .slots) < length (w .host .weave .slots)
+        p = rw is at (handle-there w k whole out f (nextArgs m at .handle) (next-handle (w .lent) (w .host) m at fine))
+
+        go : Left (w .lent .text) (w .host .weave .turn) (w .host .used) (w .lent .card) (w .host .weave .slots) k whole out → out ++ listLeft w k ≡ whole
+        go (listing p′ q) = q
+        go (shut rest z q) = absurd (omega (arith, p, place-none (hasHandle k) freeSlot (w .host .weave .slots) z))
+
+    ended : listLeft w k ≡ [] → out ≡ whole
+    ended z = sym (append-nil out) ∙ ap (λ (x : List (List ℕ)). out ++ x) (sym z) ∙ left-is
+
+    over : out ≡ whole → listLeft w k ≡ []
+    over q = nothing (listLeft w k) (omega (arith, ap length left-is, length-append out (listLeft w k), ap length q))
+
+    -- it answers 0 exactly when the whole list was out before it
+    pub zero-exactly : (answerOf (step w (Next m at) .said) ≡ 0) ↔ (out ≡ whole)
+    zero-exactly = (
+      λ z. ended (page-zero (nextArgs m at .out .len) (listLeft w k) (left-long w k) (rw is at page-fine) (rw is at (sym answer-is ∙ z))),
+      λ q. answer-is ∙ rw is (zero-page (nextArgs m at .out .len) (listLeft w k) (over q)),
+    )
+
+    -- and it hands over at least one record, unless the whole list was out
+    pub some-given : (out ≡ whole → ⊥) → 1 ≤ length (givenBy k w (Next m at))
+    some-given n =
+        rw (e, eq-eqb (nextArgs m at .handle) k is, is)
+        (page-some (nextArgs m at .out .len) (listLeft w k) (rw is at page-fine) (λ z. n (ended z)))
+
+-- ---- from an open on
+
+part-of : (text : List ℕ) (turn used : ℕ) (card : List ℕ) (slots : List Slot) (k : ℕ) (whole out : List (List ℕ)) → Left text turn used card slots k whole out → FirstPart out whole
+part-of text turn used card slots k whole out (listing p q) = (_, q)
+part-of text turn used card slots k whole out (shut rest z q) = (rest, q)
+
+module _ (w : World) (t : TidyIn w) (m : List ℕ) (at k : ℕ) (o : step w (Open m at) .said ≡ Answered Fine k) where
+  abbrev slots′ : List Slot
+  slots′ = w .host .weave .slots
+
+  abbrev place : ℕ
+  place = placeOf (hasHandle 0) slots′
+
+  opened-fine : isFine (openCheck (w .lent) (w .host) m at) ≡ true
+  unfolding step openAnswer
+  opened-fine = settle-ok (w .host) (openCheck (w .lent) (w .host) m at) _ _ (ap isRefused o)
+
+  place-low : place < length slots′
+  unfolding slotFine
+  place-low = rw (t .four) (ltb-true place 4 (and-left (ltb place 4) _ (open-slot (w .lent) (w .host) m at opened-fine)))
+
+  few : w .host .weave .opened < 65535
+  unfolding slotFine
+  few = ltb-true (w .host .weave .opened) 65535 (and-right (ltb place 4) _ (open-slot (w .lent) (w .host) m at opened-fine))
+
+  runs : w .host .weave .running ≡ true
+  unfolding openCheck
+  runs = gate-running (w .lent) (w .host) (length m) (first-left (gateCheck (w .lent) (w .host) (length m)) _ opened-fine)
+
+  handle-sum : added (w .host .weave .opened) 1 65535 ≡ w .host .weave .opened + 1
+  handle-sum = added-sum (w .host .weave .opened) 1 65535 (omega (arith, few))
+
+  -- "handle numbers 1, 2, 3 .. within the weave"
+  pub handle-next : k ≡ w .host .weave .opened + 1
+  unfolding step openAnswer settle
+  handle-next = sym (rw opened-fine at (ap answerOf o)) ∙ handle-sum
+
+  -- the slot that is stored
+  abbrev new : Slot
+  new = opening m (openArgs m at) (w .host .weave .opened + 1)
+
+  new-handle : new .handle ≡ w .host .weave .opened + 1
+  unfolding opening
+  new-handle = refl
+
+  new-place : placeOf (hasHandle (w .host .weave .opened + 1)) (set slots′ place new) ≡ place
+  new-place =
+      place-new (hasHandle (w .host .weave .opened + 1)) freeSlot slots′ place new (t .none-above (w .host .weave .opened + 1) (omega arith))
+      (own-handle (w .host .weave .opened + 1) new new-handle) place-low
+
+  new-cursor : slotOf (set slots′ place new) (placeOf (hasHandle (w .host .weave .opened + 1)) (set slots′ place new)) .cursor ≡ new .cursor
+  unfolding slotOf
+  new-cursor =
+      ap (λ (s : Slot). s .cursor) (ap (λ (i : ℕ). getD (set slots′ place new) i freeSlot) new-place ∙ got-stored slots′ place new freeSlot place-low)
+
+  -- the cursor is followed from here on, and nothing of its list is out
+  pub open-follows : FollowedIn (step w (Open m at) .world) k (listLeft (step w (Open m at) .world) k) []
+  unfolding step openAnswer settle openNext withWeave paid tabled nextList cursorOf
+  open-follows =
+      rw (opened-fine, handle-sum, handle-next)
+      (record {
+        runs = runs;
+        tidy = tidy-opened slots′ (w .host .weave .opened) t place new new-handle;
+        least = omega arith;
+        most = omega arith;
+        left = listing (rw (new-place, length-stored slots′ place new) place-low) refl;
+      })
+
+  -- what it lists: every committed event that filter, window and grants allow, cut to the limit
+  pub open-lists : listLeft (step w (Open m at) .world) k
+      ≡ listOf (mayRead (w .lent .text) (w .host .weave .turn)) (opening m (openArgs m at) k .cursor) (records (take (w .host .used) (w .lent .card)) 1)
+  unfolding step openAnswer settle openNext withWeave paid tabled nextList cursorOf slotOf
+  open-lists =
+      rw (opened-fine, handle-sum, handle-next)
+      (ap (λ (c : Cursor). listOf (mayRead (w .lent .text) (w .host .weave .turn)) c (records (take (w .host .used) (w .lent .card)) 1)) new-cursor)
+
+  module _ (os : List Op) (i : All InTurn os) where
+    abbrev w₁ : World
+    w₁ = step w (Open m at) .world
+
+    followed : FollowedIn (run w₁ os) k (listLeft w₁ k) (handedOver k w₁ os)
+    followed = follow-run os w₁ k (listLeft w₁ k) [] i open-follows
+
+    -- THE PROMISE: "what one cursor hands over is a first part of one list"
+    pub first-part : FirstPart (handedOver k w₁ os) (listLeft w₁ k)
+    first-part = part-of _ _ _ _ _ k (listLeft w₁ k) (handedOver k w₁ os) (followed .left)
+
+    -- "and a next that isn't refused answers 0 exactly when the whole list was out before it"
+    pub end-exactly : (m′ : List ℕ) (at′ : ℕ) → nextArgs m′ at′ .handle ≡ k → isRefused (step (run w₁ os) (Next m′ at′) .said) ≡ false
+        → (answerOf (step (run w₁ os) (Next m′ at′) .said) ≡ 0) ↔ (handedOver k w₁ os ≡ listLeft w₁ k)
+    end-exactly m′ at′ is e = zero-exactly (run w₁ os) m′ at′ e k is (listLeft w₁ k) (handedOver k w₁ os) followed
+
+-- ---- nothing of this holds because nothing happens: as many accepted nexts as there are events bring the whole list out
+
+next-in-turn : (k : ℕ) (o : Op) → isNextOn k o ≡ true → InTurn o
+next-in-turn k (Begin args) e = tt
+next-in-turn k (Ingress topic payload) e = tt
+next-in-turn k (Write m a) e = tt
+next-in-turn k (Read m a) e = tt
+next-in-turn k (Open m a) e = tt
+next-in-turn k (Next m a) e = tt
+next-in-turn k (Close m a) e = tt
+next-in-turn k (Return code) e = absurd (true≢false (sym e))
+next-in-turn k (LookUp id) e = tt
+
+next-gives : (w : World) (k : ℕ) (whole out : List (List ℕ)) → FollowedIn w k whole out → (o : Op) → isNextOn k o ≡ true → isRefused (step w o .said) ≡ false
+    → (out ≡ whole → ⊥) → 1 ≤ length (givenBy k w o)
+next-gives w k whole out f (Begin args) i e n = absurd (true≢false (sym i))
+next-gives w k whole out f (Ingress topic payload) i e n = absurd (true≢false (sym i))
+next-gives w k whole out f (Write m a) i e n = absurd (true≢false (sym i))
+next-gives w k whole out f (Read m a) i e n = absurd (true≢false (sym i))
+next-gives w k whole out f (Open m a) i e n = absurd (true≢false (sym i))
+next-gives w k whole out f (Next m a) i e n = some-given w m a e k (eqb-true (nextArgs m a .handle) k i) whole out f n
+next-gives w k whole out f (Close m a) i e n = absurd (true≢false (sym i))
+next-gives w k whole out f (Return code) i e n = absurd (true≢false (sym i))
+next-gives w k whole out f (LookUp id) i e n = absurd (true≢false (sym i))
+
+-- a first part that is as long is the whole
+all-out : (whole out rest : List (List ℕ)) → out ++ rest ≡ whole → length whole ≤ length out → out ≡ whole
+all-out whole out rest e h = sym (append-nil out) ∙ ap (λ (x : List (List ℕ)). out ++ x) (sym (nothing rest (omega (arith, ap length e, length-append out rest)))) ∙ e
+
+drained-from : (os : List Op) (w : World) (k : ℕ) (whole out : List (List ℕ)) → FollowedIn w k whole out → Nexts k w os → length whole ≤ length out + length os
+    → length whole ≤ length (out ++ handedOver k w os)
+drained-from [] w k whole out f n h = rw (append-nil out) (omega arith)
+drained-from (o ∷ os) w k whole out f n h =
+    go (tested (leb (length whole) (length out)))
+    (λ h′. drained-from os (step w o .world) k whole (out ++ givenBy k w o) (follow-step w k whole out f o (next-in-turn k o (n .0))) (n .1 .1) h′)
+  where
+    go : Tested (leb (length whole) (length out))
+        → (length whole ≤ length (out ++ givenBy k w o) + length os → length whole ≤ length ((out ++ givenBy k w o) ++ handedOver k (step w o .world) os))
+        → length whole ≤ length (out ++ (givenBy k w o ++ handedOver k (step w o .world) os))
+    go (passes e) ih = omega (arith, leb-true (length whole) (length out) e, length-append out (givenBy k w o ++ handedOver k (step w o .world) os))
+    go (fails e) ih =
+        let short = leb-false (length whole) (length out) e in
+        let more = next-gives w k whole out f o (n .0) (n .1 .0) (λ q. omega (arith, short, ap length q)) in
+        rw (← append-assoc out (givenBy k w o) (handedOver k (step w o .world) os)) (ih (omega (arith, h, more, length-append out (givenBy k w o))))
+
+nexts-in-turn : (os : List Op) (w : World) (k : ℕ) → Nexts k w os → All InTurn os
+nexts-in-turn [] w k n = tt
+nexts-in-turn (o ∷ os) w k n = (next-in-turn k o (n .0), nexts-in-turn os (step w o .world) k (n .1 .1))
+
+-- THE PROMISE, drained: as many nexts that are not refused as the list has events, and the whole list is out
+pub drained : (w : World) → TidyIn w → (m : List ℕ) (at k : ℕ) → step w (Open m at) .said ≡ Answered Fine k → (os : List Op)
+    → Nexts k (step w (Open m at) .world) os → length (listLeft (step w (Open m at) .world) k) ≤ length os
+    → handedOver k (step w (Open m at) .world) os ≡ listLeft (step w (Open m at) .world) k
+drained w t m at k o os n h =
+    let w₁ = step w (Open m at) .world in
+    let p = first-part w t m at k o os (nexts-in-turn os w₁ k n) in
+    all-out (listLeft w₁ k) (handedOver k w₁ os) (p .0) (p .1) (drained-from os w₁ k (listLeft w₁ k) [] (open-follows w t m at k o) n (omega arith))

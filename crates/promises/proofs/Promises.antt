@@ -1,0 +1,181 @@
+-- THE PROMISES, each in one place and in the user's order. What they speak of is in specs/: Box, Refusal, Outcome, Diary, ReadBack, Turn. That they are about
+-- the code is ContractsHold.antt; that they do not hold because nothing happens is the last part.
+-- Assumes nothing.
+use mathlib.Core.Path.{_≡_}
+use mathlib.Core.Bool.{Bool, true, false}
+use mathlib.Core.List.{List, [], _∷_, List·Memᴰ}
+use mathlib.Core.Logic.{_↔_}
+use Prim.Native.Nat.{ℕ, _+_, _^_, _≤_, _<_}
+use lib.IntN.{ℤ, pos}
+use lib.ListN.{length, take, getD}
+use Rattle.le.specs.Splice.{splice, zeros}
+use Rattle.le.proofs.LeLaws.{Bytes}
+use Rattle.manifest.specs.Saying.{mayRead}
+use Rattle.record.specs.Written.{Written}
+use Rattle.card.specs.Pick.{All, Sorted, only}
+use Rattle.card.specs.Records.{records}
+use Rattle.card.specs.Listing.{listed, turn, listOf, Before}
+use Rattle.card.specs.declared.Cursor.{Cursor}
+use Rattle.card.proofs.RecordsLaws.{records-rise}
+use Rattle.card.proofs.ListingLaws.{listed-order}
+use Rattle.weave.specs.declared.Code.{Code}
+use Rattle.weave.specs.declared.Code.the-variants.{Fine}
+use Rattle.weave.specs.Codes.{isFine}
+use Rattle.weave.specs.States.{freshWeave}
+use Rattle.weave.specs.Args.{writeArgs, readArgs, openArgs, nextArgs}
+use Rattle.takes.specs.Opening.{opening}
+use Rattle.takes.specs.Payloads.{payloadBytes}
+use Rattle.host.specs.declared.Fate.the-variants.{Discarded, Committed}
+use Rattle.host.specs.Hosts.{Lent, lentAs, lentCheck}
+use Rattle.host.specs.Stage.{headerFor, isPanic, writtenTopic}
+use Rattle.host.specs.Mount.{mounted}
+use Rattle.host.specs.Paging.{nextPart, nextAnswer, nextCheck}
+use Rattle.host.specs.Reading.{readAnswer, readCheck}
+use Rattle.promises.specs.Box.{World, Op, Begin, Ingress, Write, Read, Open, Next, Return, LookUp, Answered, Ended, Part, step, isRefused, memoryOf, mountedAs, run}
+use Rattle.promises.specs.Refusal.{Unchanged, OnlyThere}
+use Rattle.promises.specs.Outcome.{Conditions, SameCard, saysCommitted, NoneCommitted, Appended, butFaulted}
+use Rattle.promises.specs.Diary.{Diary, answerOf, ingressRecord, writtenRecord, firstPage, diary, Agrees}
+use Rattle.promises.specs.ReadBack.{HasPage}
+use Rattle.promises.specs.Turn.{InTurn, handedOver, listLeft, FirstPart, Nexts, Allowed}
+use Rattle.promises.proofs.RefusalHolds.{refusal, next-there, read-there}
+use Rattle.promises.proofs.AcceptedLaws.{settle-ok}
+use Rattle.promises.proofs.OutcomeHolds.{committed-exactly}
+use Rattle.promises.proofs.CardHolds.{only-commit, commit-appends, discard-restores}
+use Rattle.promises.proofs.DiaryHolds.{life-agrees}
+use Rattle.promises.proofs.ReadBackHolds.{write-reads-back, ingress-reads-back, kept-found, staged-found, page-stands}
+use Rattle.promises.proofs.TidyHolds.{life-tidy}
+use Rattle.promises.proofs.PagesHold.{open-lists, first-part, end-exactly, drained}
+use Rattle.promises.proofs.ListHolds.{all-allowed, every-allowed, within-limit}
+use Rattle.promises.proofs.CommitRuns.{oneModule, commits-one}
+
+-- ==== 1. "a refusal changes no lent byte and, but for the spoiled mark, no state"
+
+-- for every box and every call
+pub a-refusal-changes-nothing : (w : World) (o : Op) → isRefused (step w o .said) ≡ true → Unchanged w o (step w o)
+a-refusal-changes-nothing = refusal
+
+-- "Read and tl_next change no memory byte but those" that they answer
+pub next-changes-its-bytes-alone : (w : World) (m : List ℕ) (at : ℕ) → isRefused (step w (Next m at) .said) ≡ false
+    → OnlyThere m (step w (Next m at) .memory) (nextArgs m at .out .ptr) (answerOf (step w (Next m at) .said))
+unfolding step nextAnswer
+next-changes-its-bytes-alone w m at e = next-there (w .lent) (w .host) m at (settle-ok (w .host) (nextCheck (w .lent) (w .host) m at) _ _ e)
+
+pub read-changes-its-bytes-alone : (w : World) (m : List ℕ) (at : ℕ) → isRefused (step w (Read m at) .said) ≡ false
+    → OnlyThere m (step w (Read m at) .memory) (readArgs m at .out .ptr) (answerOf (step w (Read m at) .said))
+unfolding step readAnswer
+read-changes-its-bytes-alone w m at e = read-there (w .lent) (w .host) m at (settle-ok (w .host) (readCheck (w .lent) (w .host) m at) _ _ e)
+
+-- ==== 2. "Records, checks, grants, charges and outcomes are document 01's."
+
+-- "An outcome says committed exactly when 01's conditions hold", with the counts of what is staged
+pub committed-exactly-when : (w : World) (code : ℤ) (events bytes : ℕ)
+    → (step w (Return code) .said ≡ Ended (Committed events bytes))
+    ↔ (Conditions (w .lent) (w .host) code × ((events ≡ w .host .weave .count) × (bytes ≡ w .host .weave .staged)))
+committed-exactly-when = committed-exactly
+
+-- then exactly the staged bytes were appended, and no other card byte changed
+pub committed-means-appended : (w : World) (code : ℤ) (events bytes : ℕ) → step w (Return code) .said ≡ Ended (Committed events bytes)
+    → Appended w (step w (Return code) .world)
+committed-means-appended = commit-appends
+
+-- nothing else changes the card
+pub only-a-commit-changes-the-card : (w : World) (o : Op) → saysCommitted (step w o .said) ≡ false → SameCard w (step w o .world)
+only-a-commit-changes-the-card = only-commit
+
+-- "Discard leaves the card, and the state as before begin (but for faulted)": from a box with no weave, through any calls
+pub a-discard-restores : (w : World) → w .host .weave ≡ freshWeave → (os : List Op) → NoneCommitted w os → (code : ℤ) (c : Code)
+    → step (run w os) (Return code) .said ≡ Ended (Discarded c)
+    → (step (run w os) (Return code) .world .lent .card ≡ w .lent .card)
+    × (step (run w os) (Return code) .world .host ≡ butFaulted (w .host) (run w os .host .faulted))
+a-discard-restores = discard-restores
+
+-- The life of a box: mounted, and asked whatever may be asked, it agrees with the diary. So the card's records are those at mount, then those staged in each
+-- weave whose outcome said committed, in order; a weave's units are the sum of the charges of its accepted module calls; what is staged is what its accepted
+-- ingress and writes brought. (A memory holds bytes.)
+pub the-box-keeps-its-diary : (l : Lent) (used : ℕ) (os : List Op) → All (λ (o : Op). Bytes (memoryOf o)) os → mounted l used .code ≡ Fine
+    → Agrees (run (mountedAs l used) os) (diary (mountedAs l used) (firstPage l used) os)
+the-box-keeps-its-diary = life-agrees
+
+-- "What is written reads back as the same topic and the payload as 01 stores it": what a write stages, and an ingress
+pub a-write-stages-its-record : (w : World) (m : List ℕ) (at : ℕ) → Bytes m → length (w .host .weave .trace) ≡ 32 → w .host .weave .time .0 < 256 ^ 8
+    → isRefused (step w (Write m at) .said) ≡ false → isPanic m at ≡ false
+    → (step w (Write m at) .world .lent .staging ≡ splice (w .lent .staging) (w .host .weave .staged) (writtenRecord w m at))
+    × Written (headerFor (w .host) (writeArgs m at .flags) (w .host .weave .turn)) (w .host .weave .trace) (writtenTopic m at) (payloadBytes m (writeArgs m at))
+    (writtenRecord w m at)
+a-write-stages-its-record = write-reads-back
+
+pub an-ingress-stages-its-record : (w : World) (topic payload : List ℕ) → length (w .host .weave .trace) ≡ 32 → w .host .weave .time .0 < 256 ^ 8
+    → isRefused (step w (Ingress topic payload) .said) ≡ false
+    → (step w (Ingress topic payload) .world .lent .staging ≡ splice (w .lent .staging) (w .host .weave .staged) (ingressRecord w topic payload))
+    × Written (headerFor (w .host) 1 0) (w .host .weave .trace) topic payload (ingressRecord w topic payload)
+an-ingress-stages-its-record = ingress-reads-back
+
+-- after a commit look-up gives the record, by its number; before it, by the number that it will have
+pub look-up-gives-what-was-kept : (w : World) (d : Diary) → Agrees w d → isFine (lentCheck (w .lent) (w .host)) ≡ true → (i : ℕ) → i < length (d .kept)
+    → step w (LookUp (i + 1)) .said ≡ Part (getD (d .kept) i [])
+look-up-gives-what-was-kept = kept-found
+
+pub look-up-gives-what-is-staged : (w : World) (d : Diary) → Agrees w d → isFine (lentCheck (w .lent) (w .host)) ≡ true → (i : ℕ) → i < length (d .staged)
+    → step w (LookUp (w .host .next .0 + i)) .said ≡ Part (getD (d .staged) i [])
+look-up-gives-what-is-staged = staged-found
+
+-- "its pointer moved": every record of a page stands in the memory with its topic and its payload as 01 stores it, its pointer where its bytes now lie
+pub a-page-stands-in-memory : (w : World) (m : List ℕ) (at : ℕ) → isRefused (step w (Next m at) .said) ≡ false
+    → HasPage (step w (Next m at) .memory) (nextArgs m at .out .ptr) (nextPart (w .lent) (w .host) m at)
+a-page-stands-in-memory = page-stands
+
+-- ==== 3. "Paging is complete"
+
+-- The box is any that a mount and any calls lead to; an open answers the handle k; then come any calls of the same turn.
+module _ (l : Lent) (used : ℕ) (before : List Op) (m : List ℕ) (at k : ℕ) (o : step (run (mountedAs l used) before) (Open m at) .said ≡ Answered Fine k) where
+  abbrev w : World
+  w = run (mountedAs l used) before
+
+  abbrev w₁ : World
+  w₁ = step w (Open m at) .world
+
+  abbrev cursor′ : Cursor
+  cursor′ = opening m (openArgs m at) k .cursor
+
+  -- "one list (every committed event that filter, window and grants allow, .. cut to the limit)"
+  pub the-list : listLeft w₁ k ≡ listOf (mayRead (w .lent .text) (w .host .weave .turn)) cursor′ (records (take (w .host .used) (w .lent .card)) 1)
+  the-list = open-lists w (life-tidy l used before) m at k o
+
+  -- "whatever else it calls, what one cursor hands over is a first part of one list"
+  pub a-first-part : (os : List Op) → All InTurn os → FirstPart (handedOver k w₁ os) (listLeft w₁ k)
+  a-first-part os i = first-part w (life-tidy l used before) m at k o os i
+
+  -- "a next that isn't refused answers 0 exactly when the whole list was out before it"
+  pub zero-exactly-at-the-end : (os : List Op) → All InTurn os → (m′ : List ℕ) (at′ : ℕ) → nextArgs m′ at′ .handle ≡ k
+      → isRefused (step (run w₁ os) (Next m′ at′) .said) ≡ false
+      → (answerOf (step (run w₁ os) (Next m′ at′) .said) ≡ 0) ↔ (handedOver k w₁ os ≡ listLeft w₁ k)
+  zero-exactly-at-the-end os i = end-exactly w (life-tidy l used before) m at k o os i
+
+  -- and everything comes out: as many nexts that are not refused as there are events
+  pub everything-comes-out : (os : List Op) → Nexts k w₁ os → length (listLeft w₁ k) ≤ length os → handedOver k w₁ os ≡ listLeft w₁ k
+  everything-comes-out = drained w (life-tidy l used before) m at k o
+
+-- of the list: "each once, in order": the numbers strictly rise, or downward strictly fall
+pub each-once-in-order : (may : List ℕ → Bool) (c : Cursor) (card : List ℕ) → Sorted (Before (c .desc)) (listOf may c (records card 1))
+each-once-in-order may c card = listed-order may c (records card 1) (records-rise card 1)
+
+-- none that filter, window and grants do not allow
+pub none-besides : (may : List ℕ → Bool) (c : Cursor) (rs : List (List ℕ)) → All (Allowed may c) (listOf may c rs)
+none-besides = all-allowed
+
+-- every one that they allow, where the limit does not cut
+pub none-left-out : (may : List ℕ → Bool) (c : Cursor) (rs : List (List ℕ)) (r : List ℕ) → List·Memᴰ r rs → Allowed may c r
+    → length (only (listed may c) (turn (c .desc) rs)) ≤ c .limit → List·Memᴰ r (listOf may c rs)
+none-left-out = every-allowed
+
+-- "cut to the limit"
+pub at-most-the-limit : (may : List ℕ → Bool) (c : Cursor) (rs : List (List ℕ)) → length (listOf may c rs) ≤ c .limit
+at-most-the-limit = within-limit
+
+-- ==== Nothing of this holds because nothing happens
+
+-- on every empty card with room for it, in every staging buffer, one event is begun, staged and committed
+pub a-run-commits : (n c : ℕ) → 65536 ≤ n → n ≤ 1048576 → 136 ≤ c → c ≤ 16777216
+    → step (run (mountedAs (lentAs (zeros n) (zeros c) oneModule) 0) (Begin (zeros 128) ∷ Ingress (116 ∷ []) [] ∷ [])) (Return (pos 0)) .said
+    ≡ Ended (Committed 1 136)
+a-run-commits = commits-one

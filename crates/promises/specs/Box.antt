@@ -1,0 +1,129 @@
+-- A box over its whole life: what it is, what can be asked of it, and what each asking gives. It is made of the operations' own definitions and nothing
+-- else; `proofs/ContractsHold.antt` shows that each operation's contract is its case of `step`.
+-- Assumes nothing.
+use mathlib.Core.Bool.{Bool, true, false, not, cond}
+use mathlib.Core.List.{List, [], _∷_}
+use Prim.Native.Nat.{ℕ}
+use lib.IntN.{ℤ, pos}
+use lib.ListN.{length}
+use Rattle.weave.specs.declared.Code.{Code}
+use Rattle.weave.specs.declared.Code.the-variants.{Fine}
+use Rattle.weave.specs.Codes.{isFine, number}
+use Rattle.host.specs.declared.Host.{Host}
+use Rattle.host.specs.declared.Answer.{Answer}
+use Rattle.host.specs.declared.Fate.{Fate}
+use Rattle.host.specs.declared.Fate.the-variants.{Refused, Discarded, Running, Committed}
+use Rattle.host.specs.Hosts.{Lent, lentAs}
+use Rattle.host.specs.Fates.{fateNumber}
+use Rattle.host.specs.Begin.{beginAnswer, beginStaging}
+use Rattle.host.specs.Stage.{ingressAnswer, ingressStaging, writeAnswer, writeStaging}
+use Rattle.host.specs.Reading.{readAnswer, readMemory}
+use Rattle.host.specs.Cursors.{openAnswer, closeAnswer}
+use Rattle.host.specs.Paging.{nextAnswer, nextMemory}
+use Rattle.host.specs.Ending.{returnAnswer, returnCard, returnStaging}
+use Rattle.host.specs.Mount.{mounted, looked}
+
+-- a box between two calls: its state, and the buffers it is lent
+pub record World : Type 0 where
+  pub host : Host
+  pub lent : Lent
+
+-- what can be asked. A module call carries the memory that it is lent ("memory is whatever the module makes of it") and its record's address
+pub data Op : Type 0 where
+  Begin : List ℕ → Op
+  Ingress : List ℕ → List ℕ → Op
+  Write : List ℕ → ℕ → Op
+  Read : List ℕ → ℕ → Op
+  Open : List ℕ → ℕ → Op
+  Next : List ℕ → ℕ → Op
+  Close : List ℕ → ℕ → Op
+  Return : ℤ → Op
+  LookUp : ℕ → Op
+
+-- what is said: a code, Fine with a number; a return's fate; the part that a look-up shows
+pub data Said : Type 0 where
+  Answered : Code → ℕ → Said
+  Ended : Fate → Said
+  Part : List ℕ → Said
+
+-- one asking: what is said, the box afterwards, and the memory afterwards
+pub record Step : Type 0 where
+  pub said : Said
+  pub world : World
+  pub memory : List ℕ
+
+abbrev answered : World → Answer → List ℕ → List ℕ → Step
+answered w a staging′ memory′ =
+    record {
+      said = Answered (a .code) (a .value);
+      world = record { host = a .host; lent = lentAs staging′ (w .lent .card) (w .lent .text) };
+      memory = memory′;
+    }
+
+-- "Each operation takes the host's state and hands the next state back"
+unfoldable pub step : World → Op → Step
+step w (Begin args) = answered w (beginAnswer (w .lent) (w .host) args) (beginStaging (w .lent) (w .host) args) []
+step w (Ingress topic payload) =
+    answered w (ingressAnswer (w .lent) (w .host) topic payload) (ingressStaging (w .lent) (w .host) topic payload) []
+step w (Write m a) = answered w (writeAnswer (w .lent) (w .host) m a) (writeStaging (w .lent) (w .host) m a) m
+step w (Read m a) = answered w (readAnswer (w .lent) (w .host) m a) (w .lent .staging) (readMemory (w .lent) (w .host) m a)
+step w (Open m a) = answered w (openAnswer (w .lent) (w .host) m a) (w .lent .staging) m
+step w (Next m a) = answered w (nextAnswer (w .lent) (w .host) m a) (w .lent .staging) (nextMemory (w .lent) (w .host) m a)
+step w (Close m a) = answered w (closeAnswer (w .lent) (w .host) m a) (w .lent .staging) m
+step w (Return code) =
+    record {
+      said = Ended (returnAnswer (w .lent) (w .host) code .fate);
+      world = record {
+        host = returnAnswer (w .lent) (w .host) code .host;
+        lent = lentAs (returnStaging (w .lent) (w .host) code) (returnCard (w .lent) (w .host) code) (w .lent .text);
+      };
+      memory = [];
+    }
+step w (LookUp id) = record { said = Part (looked (w .lent) (w .host) id); world = w; memory = [] }
+
+-- the memory that is lent to a call; none to the others
+abbrev pub memoryOf : Op → List ℕ
+memoryOf (Begin args) = []
+memoryOf (Ingress topic payload) = []
+memoryOf (Write m a) = m
+memoryOf (Read m a) = m
+memoryOf (Open m a) = m
+memoryOf (Next m a) = m
+memoryOf (Close m a) = m
+memoryOf (Return code) = []
+memoryOf (LookUp id) = []
+
+-- any sequence of calls: "each call gets card, staging, manifest and state as the last one left them"
+abbrev pub run : World → List Op → World
+run w [] = w
+run w (o ∷ os) = run (step w o .world) os
+
+-- the box as mount leaves it
+abbrev pub mountedAs : Lent → ℕ → World
+mountedAs l used = record { host = mounted l used .host; lent = l }
+
+-- ---- 01's numbers for what is said
+
+-- a code below 0, or the answer; a return's by its fate; of a look-up the length of the part
+abbrev pub saidNumber : Said → ℤ
+saidNumber (Answered c v) = cond (isFine c) (pos v) (number c)
+saidNumber (Ended f) = fateNumber f
+saidNumber (Part bytes) = pos (length bytes)
+
+-- refused: a code is given. "Discards are outcomes", and a look-up gives no code
+abbrev pub isRefused : Said → Bool
+isRefused (Answered c v) = not (isFine c)
+isRefused (Ended (Refused c)) = true
+isRefused (Ended (Discarded c)) = false
+isRefused (Ended Running) = false
+isRefused (Ended (Committed events bytes)) = false
+isRefused (Part bytes) = false
+
+-- the code of a refusal
+abbrev pub codeOf : Said → Code
+codeOf (Answered c v) = c
+codeOf (Ended (Refused c)) = c
+codeOf (Ended (Discarded c)) = Fine
+codeOf (Ended Running) = Fine
+codeOf (Ended (Committed events bytes)) = Fine
+codeOf (Part bytes) = Fine

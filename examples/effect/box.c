@@ -1,0 +1,95 @@
+/* The imports of the module name `filament`, by the functions of the archive. */
+#include "box.h"
+
+#include <inttypes.h>
+#include <stdio.h>
+#include <string.h>
+
+#define MANIFEST(b) (const uint8_t *)(b)->manifest, strlen((b)->manifest)
+#define LENT(b) (b)->staging, STAGING, (b)->card, (b)->card_len, MANIFEST(b)
+
+/* What a module call is answered: the code where it is below 0, else the value. The box keeps the next state. */
+static uint64_t settle(box *b, const char *call, loafheron_answer a) {
+    int64_t answer = a.code < 0 ? a.code : (int64_t)a.value;
+    b->state = a.state;
+    printf("  %s %" PRId64 "\n", call, answer);
+    return (uint64_t)answer;
+}
+
+uint64_t Z_filamentZ_filament_write(box *b, uint64_t at) {
+    return settle(b, "write", loafheron_write(b->state, b->memory->data, b->memory->size, LENT(b), at));
+}
+
+uint64_t Z_filamentZ_filament_read(box *b, uint64_t at) {
+    return settle(b, "read", loafheron_read(b->state, b->memory->data, b->memory->size, LENT(b), at));
+}
+
+uint64_t Z_filamentZ_filament_tl_open(box *b, uint64_t at) {
+    return settle(b, "tl_open", loafheron_open(b->state, b->memory->data, b->memory->size, LENT(b), at));
+}
+
+uint64_t Z_filamentZ_filament_tl_next(box *b, uint64_t at) {
+    return settle(b, "tl_next", loafheron_next(b->state, b->memory->data, b->memory->size, LENT(b), at));
+}
+
+uint64_t Z_filamentZ_filament_tl_close(box *b, uint64_t at) {
+    return settle(b, "tl_close", loafheron_close(b->state, b->memory->data, b->memory->size, LENT(b), at));
+}
+
+int64_t box_mount(box *b, size_t card_len, uint64_t used) {
+    b->card_len = card_len;
+    loafheron_mounted m = loafheron_mount(LENT(b), used);
+    b->state = m.state;
+    printf("mount %" PRId64 ", the next number is %" PRIu64 "\n", m.code, m.state.next);
+    return m.code;
+}
+
+int64_t box_begin(box *b, uint64_t res_max, uint64_t virt_time) {
+    uint8_t args[WEAVE_ARGS] = {0};
+    memcpy(args + 24, &res_max, 8);
+    memcpy(args + 48, &virt_time, 8);
+    loafheron_answer a = loafheron_begin(b->state, LENT(b), args, sizeof args);
+    b->state = a.state;
+    printf("begin %" PRId64 "\n", a.code);
+    return a.code;
+}
+
+void box_return(box *b, int64_t code) {
+    static const char *const kinds[] = {"refused", "discarded", "running", "committed"};
+    loafheron_returned r = loafheron_return(b->state, LENT(b), code);
+    const loafheron_outcome *o = &r.outcome;
+    b->state = r.state;
+    printf("  returns %" PRId64 ": %s", code, kinds[o->kind]);
+    if (o->kind == LOAFHERON_COMMITTED) {
+        printf(", %" PRIu64 " events, %" PRIu64 " bytes\n", o->events, o->bytes);
+    } else if (o->kind == LOAFHERON_RUNNING) {
+        printf("\n");
+    } else {
+        printf(" %" PRId64 "\n", o->code);
+    }
+}
+
+void box_tell(box *b, wasm_rt_memory_t *memory, uint64_t user_data) {
+    b->memory = memory;
+    memset(memory->data + ARGS_AT, 0, WEAVE_ARGS);
+    memcpy(memory->data + ARGS_AT + 112, &user_data, 8);
+}
+
+static uint64_t field(const uint8_t *record, size_t at, size_t width) {
+    uint64_t n = 0;
+    memcpy(&n, record + at, width);
+    return n;
+}
+
+void box_show(const box *b) {
+    for (uint64_t id = 1; id < b->state.next; id++) {
+        loafheron_place p = loafheron_look_up(b->state, LENT(b), id);
+        const uint8_t *r = b->card + p.at;
+        int topic_len = (int)field(r, 80, 4);
+        size_t payload = 128 + (size_t)(topic_len + 7) / 8 * 8;
+        /* a value's text lies behind its 32 bytes */
+        size_t text = field(r, 4, 4) & 2 ? 32 : 0;
+        printf("card %" PRIu64 " by %" PRIu64 ": %.*s %.*s\n", id, field(r, 32, 8), topic_len, (const char *)r + 128,
+               (int)(field(r, 84, 4) - text), (const char *)r + payload + text);
+    }
+}

@@ -1,0 +1,196 @@
+/* Loafheron: the proved host of a looper box, for C.
+ *
+ * Link target/staticlib/libembed.a, which `rt staticlib embed` makes. Every function is proved to answer just what the
+ * requirements (document 01) say, for every state and every byte that it is lent.
+ *
+ * A STATE goes in by value and comes out by value, beside the answer. Begin with loafheron_mount, keep the state that
+ * each call hands back, and give it to the next call. The host keeps nothing itself and calls nothing.
+ *
+ * BUFFERS are lent for the length of one call, as a pointer and a length:
+ *   memory    of the module whose turn it is: 0 to 1,048,576 bytes; only the five module calls are lent it
+ *   staging   65,536 to 1,048,576 bytes: where events wait for the end of the weave
+ *   card      0 to 16,777,216 bytes: its first `used` bytes are the records
+ *   manifest  at most 65,536 bytes: how many modules there are, and what each may write, read and list
+ * Staging, card and manifest have the same lengths at every call as at mount; other lengths are refused with -5. A buffer
+ * that is lent as `const` is not changed. Two buffers of one call must not overlap, and no pointer may be null, not even
+ * with a length of 0: these two rules are C's, and the only ones that the host cannot look at.
+ *
+ * ADDRESSES in a module's memory (`at`, and all inside argument records) are plain numbers that the host tests itself: a
+ * wrong one is answered with -5.
+ *
+ * A REFUSAL leaves every lent byte and the state as before, with one exception: the first -6 marks the weave spoiled.
+ */
+#ifndef LOAFHERON_H
+#define LOAFHERON_H
+
+#include <stddef.h>
+#include <stdint.h>
+
+#ifdef __cplusplus
+#define LOAFHERON_ASSERT static_assert
+extern "C" {
+#else
+#define LOAFHERON_ASSERT _Static_assert
+#endif
+
+/* The codes of document 01; 0 is given where nothing is wrong. */
+enum {
+    LOAFHERON_DENIED = -1,    /* topic not granted; begin on a faulted process; a module call after a panic */
+    LOAFHERON_NOT_NOW = -2,   /* no weave running (begin: one is running); ingress too late; handle not open */
+    LOAFHERON_UNSOUND = -3,   /* card, or the staged part, not sound */
+    LOAFHERON_NO_ROOM = -4,   /* staging, card, cursor table, event numbers, or out buffer shorter than the next record */
+    LOAFHERON_BAD = -5,       /* bad argument, lent length, state or manifest */
+    LOAFHERON_BUDGET = -6,    /* this and all later module calls of the weave */
+    LOAFHERON_BAD_VALUE = -7  /* value type or content */
+};
+
+/* Room for one open cursor, and what it still has to list. */
+typedef struct {
+    uint64_t handle; /* 0: free */
+    uint64_t from;   /* from <= id < to */
+    uint64_t to;
+    uint64_t limit;
+    uint64_t desc;   /* 0 upward, 1 downward */
+    uint64_t size;   /* of the filter, up to 64 */
+    uint8_t filter[64];
+} loafheron_room;
+
+/* What the box knows between two calls. A flag is 0 or 1. No call needs a field to be looked at. */
+typedef struct {
+    uint64_t staging_len; /* the lengths at mount */
+    uint64_t card_len;
+    uint64_t manifest_len;
+    uint64_t used;        /* how much of the card is records: what the next mount is told */
+    uint64_t next;        /* the id after the card's last */
+    uint64_t faulted;     /* a module has panicked: only a new mount ends it */
+    uint64_t running;     /* a weave is running; all below belongs to it, and is 0 outside one */
+    int64_t spoiled;      /* 0, or why every further module call is refused: -6 or -1 */
+    uint64_t turn;        /* the module whose turn it is, from 1 */
+    uint64_t late;        /* too late for ingress */
+    uint64_t staged;      /* bytes in staging */
+    uint64_t count;       /* events in staging */
+    uint64_t units;       /* spent */
+    uint64_t res_max;     /* and the most that may be */
+    uint64_t time;        /* virtual */
+    uint64_t opened;      /* cursors, in this weave */
+    uint8_t trace[32];
+    loafheron_room rooms[4];
+} loafheron_state;
+
+/* What mount answers: code 0, or -5, or -3 with the offset of the first record not sound. */
+typedef struct {
+    int64_t code;
+    uint64_t at;
+    loafheron_state state; /* fresh, or all 0 where the mount is refused */
+} loafheron_mounted;
+
+/* What a call answers: code 0 and a value, or a code below 0 and the value 0. */
+typedef struct {
+    int64_t code;
+    uint64_t value;
+    loafheron_state state;
+} loafheron_answer;
+
+enum { LOAFHERON_REFUSED = 0, LOAFHERON_DISCARDED = 1, LOAFHERON_RUNNING = 2, LOAFHERON_COMMITTED = 3 };
+
+/* What a return leads to. */
+typedef struct {
+    uint64_t kind;
+    int64_t code;    /* why it was refused or discarded, else 0 */
+    uint64_t events; /* committed: how many, and their bytes, else 0 */
+    uint64_t bytes;
+} loafheron_outcome;
+
+typedef struct {
+    loafheron_outcome outcome;
+    loafheron_state state;
+} loafheron_returned;
+
+enum { LOAFHERON_NOWHERE = 0, LOAFHERON_ON_CARD = 1, LOAFHERON_IN_STAGING = 2 };
+
+/* Where a record lies: which buffer, from which byte, how many bytes. Nowhere: all 0. */
+typedef struct {
+    uint64_t buffer;
+    uint64_t at;
+    uint64_t len;
+} loafheron_place;
+
+/* No struct has padding, and these are the sizes that the archive was built with (loafheron_state_size says its own). */
+#define LOAFHERON_STATE_SIZE 608
+LOAFHERON_ASSERT(sizeof(size_t) == 8, "Loafheron is for 64-bit machines");
+LOAFHERON_ASSERT(sizeof(loafheron_room) == 112, "loafheron_room");
+LOAFHERON_ASSERT(sizeof(loafheron_state) == LOAFHERON_STATE_SIZE, "loafheron_state");
+LOAFHERON_ASSERT(offsetof(loafheron_state, trace) == 128, "loafheron_state.trace");
+LOAFHERON_ASSERT(offsetof(loafheron_state, rooms) == 160, "loafheron_state.rooms");
+LOAFHERON_ASSERT(sizeof(loafheron_mounted) == 624, "loafheron_mounted");
+LOAFHERON_ASSERT(sizeof(loafheron_answer) == 624, "loafheron_answer");
+LOAFHERON_ASSERT(sizeof(loafheron_outcome) == 32, "loafheron_outcome");
+LOAFHERON_ASSERT(sizeof(loafheron_returned) == 640, "loafheron_returned");
+LOAFHERON_ASSERT(sizeof(loafheron_place) == 24, "loafheron_place");
+
+/* The bytes of a state in the archive: LOAFHERON_STATE_SIZE, or header and archive do not belong together. */
+uint64_t loafheron_state_size(void);
+
+/* Mount. Lent: staging, card, manifest; `used` bytes of the card are records. Changes no byte.
+ * -5: sizes, used length or manifest. -3: a record is not sound, and `at` is its offset. */
+loafheron_mounted loafheron_mount(const uint8_t *staging, size_t staging_len, const uint8_t *card, size_t card_len,
+                                  const uint8_t *manifest, size_t manifest_len, uint64_t used);
+
+/* Begin a weave. `args`: the 128 bytes of FilamentWeaveArgs; used are res_max at 24, virt_time at 48, trace at 56.
+ * Answers 0: staging is all 0, module 1 has its turn. -5, -2 (a weave is running), -1 (faulted): nothing changes. */
+loafheron_answer loafheron_begin(loafheron_state state, uint8_t *staging, size_t staging_len, const uint8_t *card,
+                                 size_t card_len, const uint8_t *manifest, size_t manifest_len, const uint8_t *args,
+                                 size_t args_len);
+
+/* Ingress: the box itself stages an event, before the first accepted module call or return of the weave.
+ * Answers 0. No grant, no charge. -5, -2 (no weave, or too late), -4. */
+loafheron_answer loafheron_ingress(loafheron_state state, uint8_t *staging, size_t staging_len, const uint8_t *card,
+                                   size_t card_len, const uint8_t *manifest, size_t manifest_len, const uint8_t *topic,
+                                   size_t topic_len, const uint8_t *payload, size_t payload_len);
+
+/* The module calls. `at` is the address of the argument record in the module's memory. The module's answer is the code
+ * where it is below 0, else the value. */
+
+/* filament_write, 40 bytes: answers 0 and stages one record (it is saved only if the weave is committed). A write to
+ * filament/core/panic answers 0, stages nothing, and spoils the weave. -5, -2, -6 or -1, -7, -4. */
+loafheron_answer loafheron_write(loafheron_state state, const uint8_t *memory, size_t memory_len, uint8_t *staging,
+                                 size_t staging_len, const uint8_t *card, size_t card_len, const uint8_t *manifest,
+                                 size_t manifest_len, uint64_t at);
+
+/* filament_read, 40 bytes: the staged events with exactly that topic, as many whole records as fit. Answers the bytes
+ * written to memory, 0 when none is left. -4: the out buffer is shorter than the next record. -3: staged part not sound. */
+loafheron_answer loafheron_read(loafheron_state state, uint8_t *memory, size_t memory_len, const uint8_t *staging,
+                                size_t staging_len, const uint8_t *card, size_t card_len, const uint8_t *manifest,
+                                size_t manifest_len, uint64_t at);
+
+/* filament_tl_open, 48 bytes: answers the handle. -4: 4 are open, or 65,535 have been opened. */
+loafheron_answer loafheron_open(loafheron_state state, const uint8_t *memory, size_t memory_len, const uint8_t *staging,
+                                size_t staging_len, const uint8_t *card, size_t card_len, const uint8_t *manifest,
+                                size_t manifest_len, uint64_t at);
+
+/* filament_tl_next, 24 bytes: the longest run of remaining records that fits whole. Answers the bytes written to memory,
+ * 0 at the end of the list. -2: handle not open. -3: card not sound. -4: the out buffer is shorter than the next record. */
+loafheron_answer loafheron_next(loafheron_state state, uint8_t *memory, size_t memory_len, const uint8_t *staging,
+                                size_t staging_len, const uint8_t *card, size_t card_len, const uint8_t *manifest,
+                                size_t manifest_len, uint64_t at);
+
+/* filament_tl_close, 8 bytes: answers 0. -2: handle not open. */
+loafheron_answer loafheron_close(loafheron_state state, const uint8_t *memory, size_t memory_len, const uint8_t *staging,
+                                 size_t staging_len, const uint8_t *card, size_t card_len, const uint8_t *manifest,
+                                 size_t manifest_len, uint64_t at);
+
+/* A module has returned with a code. Refused (-5, -2): nothing changes. Running: the next module has its turn.
+ * Committed: the staged bytes stand on the card, behind the used part; no other card byte changes. Discarded: the card is
+ * as before begin. After both of these staging is all 0. */
+loafheron_returned loafheron_return(loafheron_state state, uint8_t *staging, size_t staging_len, uint8_t *card,
+                                    size_t card_len, const uint8_t *manifest, size_t manifest_len, int64_t code);
+
+/* The record with this id: on the card for ids below `next`, else among the staged bytes. Changes nothing.
+ * Nowhere: there is none, check 1 fails, or the walk to it meets an unsound record, itself included. */
+loafheron_place loafheron_look_up(loafheron_state state, const uint8_t *staging, size_t staging_len, const uint8_t *card,
+                                  size_t card_len, const uint8_t *manifest, size_t manifest_len, uint64_t id);
+
+#ifdef __cplusplus
+}
+#endif
+#endif

@@ -1,0 +1,52 @@
+//! The differential run from the command line.
+//!
+//!     differ [--calls N] [--seed S]     lives from seed S on, until N calls are made
+//!     differ --life L                   one life, every call printed
+use loafheron::differ;
+use std::process::ExitCode;
+use std::time::Instant;
+
+const CALLS: u64 = 200_000;
+const SEED: u64 = 1;
+
+fn number(args: &[String], flag: &str) -> Option<u64> {
+    let at = args.iter().position(|a| a == flag)?;
+    let said = args.get(at + 1).and_then(|n| n.replace(['_', ','], "").parse().ok());
+    Some(said.unwrap_or_else(|| panic!("{flag} wants a number")))
+}
+
+fn main() -> ExitCode {
+    let args: Vec<String> = std::env::args().skip(1).collect();
+    if let Some(life) = number(&args, "--life") {
+        let (twin, end) = differ::live(life, true);
+        return match end {
+            Ok(()) => {
+                println!("life {life}: {} calls, no difference", twin.calls);
+                ExitCode::SUCCESS
+            }
+            Err(difference) => {
+                println!("{}", differ::told(life, &difference));
+                ExitCode::FAILURE
+            }
+        };
+    }
+    let calls = number(&args, "--calls").unwrap_or(CALLS);
+    let seed = number(&args, "--seed").unwrap_or(SEED);
+    let start = Instant::now();
+    let run = differ::run(seed, calls);
+    if let Some((life, difference)) = run.failed {
+        println!("{}", differ::told(life, &difference));
+        println!("seed {seed}: {} calls in {} lives before it came apart", run.calls, run.lives);
+        return ExitCode::FAILURE;
+    }
+    for ((call, answer), n) in &run.tally {
+        println!("{call:8} {answer:18} {n:9}");
+    }
+    println!(
+        "seed {seed}: {} calls in {} lives, no difference ({:.1} s)",
+        run.calls,
+        run.lives,
+        start.elapsed().as_secs_f64()
+    );
+    ExitCode::SUCCESS
+}

@@ -1,0 +1,162 @@
+//! What lives are made of: topics, manifests, payloads, cards.
+use super::dice::Dice;
+use crate::model::event::{Event, Payload};
+use crate::model::text::{LOG, PANIC};
+use crate::model::value::{Kind, Value};
+
+/// Good topics that are near one another: one is the head of the next, or differs in a byte.
+pub fn topics() -> Vec<Vec<u8>> {
+    let mut all: Vec<Vec<u8>> = ["loop/take", "loop/take2", "loop/tak", "loop/", "a", "é/ß/漢/𝄞", "\u{7f}~ !"]
+        .iter()
+        .map(|s| s.as_bytes().to_vec())
+        .collect();
+    all.push(LOG.to_vec());
+    all.push(PANIC.to_vec());
+    all.push(b"filament/core/panics".to_vec());
+    all.push([b"loop/", &[b'x'; 300][..]].concat());
+    all.push(vec![b'y'; 2_048]);
+    all
+}
+
+/// Bytes that are no topic, or just are one.
+pub fn odd_topic(d: &mut Dice) -> Vec<u8> {
+    let odd: [&[u8]; 12] = [
+        b"",
+        b"\x1f",
+        b"\x20",
+        b"a\0b",
+        b"\xC0\x80",
+        b"\xED\xA0\x80",
+        b"\xF4\x90\x80\x80",
+        b"\xF4\x8F\xBF\xBF",
+        b"\xE2\x82",
+        b"a\xFF",
+        b"tab\there",
+        b"line\n",
+    ];
+    match d.below(4) {
+        0 => vec![b'z'; 2_047 + d.index(4)],
+        1 => {
+            let n = d.index(20);
+            d.bytes(n)
+        }
+        _ => d.pick(&odd).to_vec(),
+    }
+}
+
+/// Who may do what: a good manifest.
+pub fn manifest(d: &mut Dice, modules: u64, topics: &[Vec<u8>]) -> Vec<u8> {
+    let mut text = format!("modules\t{modules}\n").into_bytes();
+    for _ in 0..d.below(12) {
+        text.extend(grant(d, modules, topics));
+    }
+    // most lives can write, read and list something
+    for module in 1..=modules.min(3) {
+        for way in ["in", "out"] {
+            if !d.one_in(6) {
+                text.extend(format!("grant\t{module}\t{way}\tloop/take\n").bytes());
+            }
+        }
+    }
+    text
+}
+
+pub fn grant(d: &mut Dice, modules: u64, topics: &[Vec<u8>]) -> Vec<u8> {
+    let way = *d.pick(&["in", "out"]);
+    let head = format!("grant\t{}\t{way}\t", 1 + d.below(modules));
+    let topic = d.pick(topics).as_slice();
+    [head.as_bytes(), topic, b"\n"].concat()
+}
+
+/// A manifest with one thing about it that may be wrong.
+pub fn odd_manifest(d: &mut Dice, good: &[u8]) -> Vec<u8> {
+    let mut text = good.to_vec();
+    let at = d.index(text.len());
+    match d.below(9) {
+        0 => text.truncate(at),
+        1 => text[at] = d.byte(),
+        2 => text.insert(at, *d.pick(b"\t\n 0 1\r\x1f+")),
+        3 => drop(text.remove(at)),
+        4 => text.extend(b"grant\t17\tin\ta\n"),
+        5 => {
+            let lines = text.iter().filter(|b| **b == b'\n').count() - 1;
+            let until = 63 + d.index(3);
+            for _ in lines..until {
+                text.extend(b"grant\t1\tin\ta\n");
+            }
+        }
+        6 => text.extend(*d.pick(&[
+            &b"grant\t1\tin\t\n"[..],
+            b"grant\t1\tin\ta",
+            b"\n",
+            b"grant\t0\tin\ta\n",
+            b"grant\t01\tin\ta\n",
+            b"grant\t1\tIn\ta\n",
+            b"grant\t1\tin\ta\t\n",
+        ])),
+        7 => {
+            text = d
+                .pick(&[
+                    &b"modules\t0\n"[..],
+                    b"modules\t1\n",
+                    b"modules\t16\n",
+                    b"modules\t17\n",
+                    b"modules\t01\n",
+                    b"modules\t1",
+                    b"",
+                    b"\n",
+                    b"modules 1\n",
+                    b"modules\t\n",
+                ])
+                .to_vec()
+        }
+        _ => {
+            // full to the last byte, or one more
+            let topic = vec![b'w'; 1_000];
+            while text.len() + 1_020 < 65_536 {
+                text.extend([b"grant\t1\tin\t", &topic[..], b"\n"].concat());
+            }
+            let n = (65_536 + d.index(2)).saturating_sub(text.len() + 12);
+            text.extend([b"grant\t1\tin\t", &vec![b'v'; n][..], b"\n"].concat());
+        }
+    }
+    text
+}
+
+/// A value that a sound record may hold.
+pub fn value(d: &mut Dice) -> Value {
+    let n = d.index(24);
+    let kind = match d.below(7) {
+        0 => Kind::Unit,
+        1 => Kind::Boolean(d.one_in(2)),
+        2 => Kind::Signed(d.edge(0) as i64),
+        3 => Kind::Unsigned(d.edge(0)),
+        4 => Kind::Float(*d.pick(&[
+            0,
+            0x7FF8_0000_0000_0000,
+            0x7FF0_0000_0000_0000,
+            0xFFF0_0000_0000_0000,
+            1,
+            0x8000_0000_0000_0000,
+        ])),
+        5 => Kind::Text("take é\n𝄞".repeat(n).into_bytes()),
+        _ => Kind::Bytes(d.bytes(n)),
+    };
+    Value { flags: d.word() as u32, kind }
+}
+
+/// An event that may stand on a card.
+pub fn event(d: &mut Dice, id: u64, topics: &[Vec<u8>]) -> Event {
+    let topic = d.pick(topics).clone();
+    let agent = if topic == PANIC { 0 } else { d.below(17) };
+    let flags = if agent == 0 { 1 } else { *d.pick(&[1, 2, 9, 10]) };
+    let n = d.index(40);
+    let payload = if flags & 1 == 1 { Payload::Raw(d.bytes(n)) } else { Payload::Value(value(d)) };
+    let trace = d.bytes(25).try_into().unwrap();
+    Event { id, flags, time: d.edge(5_000), agent, trace, topic, payload }
+}
+
+/// A sound card of so many records, and where each begins.
+pub fn card(d: &mut Dice, records: u64, topics: &[Vec<u8>]) -> Vec<u8> {
+    (1..=records).flat_map(|id| event(d, id, topics).stored()).collect()
+}

@@ -1,0 +1,251 @@
+//! The model and the archive side by side: one call goes to both, and everything is compared.
+use super::view;
+use crate::lent::{self, Buffers, Fate};
+use crate::model::{self, Lent, Place, State};
+use crate::raw;
+use std::collections::BTreeMap;
+
+#[derive(Clone, Debug)]
+pub enum Call {
+    Mount { used: u64 },
+    Begin { args: Vec<u8> },
+    Ingress { topic: Vec<u8>, payload: Vec<u8> },
+    Write { at: u64 },
+    Read { at: u64 },
+    Open { at: u64 },
+    Next { at: u64 },
+    Close { at: u64 },
+    Return { code: i64 },
+    LookUp { id: u64 },
+}
+
+/// What both said.
+#[derive(Clone, Copy, Debug, PartialEq, Eq)]
+pub enum Said {
+    Mounted { code: i64, at: u64 },
+    Answer { code: i64, value: u64 },
+    Fate(Fate),
+    Place(Place),
+}
+
+#[derive(Clone, Copy, Debug, PartialEq, Eq)]
+pub enum Buffer {
+    Memory,
+    Staging,
+    Card,
+    Manifest,
+}
+
+/// Where the two came apart.
+#[derive(Debug)]
+pub struct Difference(pub String);
+
+pub type Agreed<T> = Result<T, Difference>;
+
+/// How often each operation gave each answer.
+pub type Tally = BTreeMap<(&'static str, String), u64>;
+
+pub struct Twin {
+    /// the model's side; ours is the same before each call
+    pub state: State,
+    pub lent: Lent,
+    memory: Vec<u8>,
+    buffers: Buffers,
+    pub calls: u64,
+    pub tally: Tally,
+    /// print every call
+    pub aloud: bool,
+}
+
+impl Twin {
+    pub fn new(lent: Lent) -> Twin {
+        let buffers =
+            Buffers { staging: lent.staging.clone(), card: lent.card.clone(), manifest: lent.manifest.clone() };
+        let memory = lent.memory.clone();
+        Twin { state: State::NONE, lent, memory, buffers, calls: 0, tally: Tally::new(), aloud: false }
+    }
+
+    fn both(&mut self, which: Buffer) -> [&mut Vec<u8>; 2] {
+        match which {
+            Buffer::Memory => [&mut self.lent.memory, &mut self.memory],
+            Buffer::Staging => [&mut self.lent.staging, &mut self.buffers.staging],
+            Buffer::Card => [&mut self.lent.card, &mut self.buffers.card],
+            Buffer::Manifest => [&mut self.lent.manifest, &mut self.buffers.manifest],
+        }
+    }
+
+    /// Another buffer on both sides; the one before is handed back.
+    pub fn lend(&mut self, which: Buffer, bytes: Vec<u8>) -> Vec<u8> {
+        let [models, ours] = self.both(which);
+        *ours = bytes.clone();
+        std::mem::replace(models, bytes)
+    }
+
+    /// Bytes put into a buffer on both sides, as far as they lie inside.
+    pub fn poke(&mut self, which: Buffer, at: u64, bytes: &[u8]) {
+        for buffer in self.both(which) {
+            let Ok(at) = usize::try_from(at) else { return };
+            if at < buffer.len() {
+                let n = bytes.len().min(buffer.len() - at);
+                buffer[at..at + n].copy_from_slice(&bytes[..n]);
+            }
+        }
+    }
+
+    /// One call to both sides.
+    pub fn call(&mut self, call: Call) -> Agreed<Said> {
+        let before = view::state(&self.state);
+        if self.aloud {
+            println!("{:6} {}", self.calls, told(&call, &self.lent.memory));
+        }
+        let models = self.models(&call);
+        let (ours, state) = self.ours(&call, before);
+        self.calls += 1;
+        *self.tally.entry((name(&call), short(&models))).or_insert(0) += 1;
+        if self.aloud {
+            println!("       {models:?}");
+        }
+        let expected = view::state(&self.state);
+        self.compare(models == ours, || format!("the model says {models:?}, the host {ours:?}"), &call)?;
+        self.compare(state == expected, || fields(&expected, &state), &call)?;
+        self.compare(self.memory == self.lent.memory, || bytes("memory", &self.lent.memory, &self.memory), &call)?;
+        let (m, o) = (&self.lent, &self.buffers);
+        self.compare(o.staging == m.staging, || bytes("staging", &m.staging, &o.staging), &call)?;
+        self.compare(o.card == m.card, || bytes("card", &m.card, &o.card), &call)?;
+        self.compare(o.manifest == m.manifest, || bytes("manifest", &m.manifest, &o.manifest), &call)?;
+        Ok(models)
+    }
+
+    fn compare(&self, same: bool, why: impl FnOnce() -> String, call: &Call) -> Agreed<()> {
+        if same {
+            return Ok(());
+        }
+        Err(Difference(format!("{}\n  {}", told(call, &self.lent.memory), why())))
+    }
+
+    fn models(&mut self, call: &Call) -> Said {
+        let (state, lent) = (&mut self.state, &mut self.lent);
+        let answer = match call {
+            Call::Mount { used } => {
+                let (said, next) = State::mount(lent, *used);
+                *state = next;
+                let (code, at) = said.err().unwrap_or((0, 0));
+                return Said::Mounted { code, at };
+            }
+            Call::Return { code } => return Said::Fate(plain(state.module_return(lent, *code))),
+            Call::LookUp { id } => return Said::Place(state.look_up(lent, *id)),
+            Call::Begin { args } => state.begin(lent, args),
+            Call::Ingress { topic, payload } => state.ingress(lent, topic, payload),
+            Call::Write { at } => state.write(lent, *at),
+            Call::Read { at } => state.read(lent, *at),
+            Call::Open { at } => state.open(lent, *at),
+            Call::Next { at } => state.next(lent, *at),
+            Call::Close { at } => state.close(lent, *at),
+        };
+        match answer {
+            Ok(value) => Said::Answer { code: 0, value },
+            Err(code) => Said::Answer { code, value: 0 },
+        }
+    }
+
+    fn ours(&mut self, call: &Call, state: raw::State) -> (Said, raw::State) {
+        let (memory, b) = (&mut self.memory, &mut self.buffers);
+        let a = match call {
+            Call::Mount { used } => {
+                let m = lent::mount(b, *used);
+                return (Said::Mounted { code: m.code, at: m.at }, m.state);
+            }
+            Call::Return { code } => {
+                let r = lent::module_return(state, b, *code);
+                return (Said::Fate(lent::fate(r.outcome)), r.state);
+            }
+            Call::LookUp { id } => return (Said::Place(place(lent::look_up(state, b, *id))), state),
+            Call::Begin { args } => lent::begin(state, b, args),
+            Call::Ingress { topic, payload } => lent::ingress(state, b, topic, payload),
+            Call::Write { at } => lent::write(state, memory, b, *at),
+            Call::Read { at } => lent::read(state, memory, b, *at),
+            Call::Open { at } => lent::open(state, memory, b, *at),
+            Call::Next { at } => lent::next(state, memory, b, *at),
+            Call::Close { at } => lent::close(state, memory, b, *at),
+        };
+        (Said::Answer { code: a.code, value: a.value }, a.state)
+    }
+}
+
+fn plain(fate: model::Fate) -> Fate {
+    match fate {
+        model::Fate::Refused(code) => Fate::Refused(code),
+        model::Fate::Discarded(code) => Fate::Discarded(code),
+        model::Fate::Running => Fate::Running,
+        model::Fate::Committed { events, bytes } => Fate::Committed { events, bytes },
+    }
+}
+
+fn place(p: raw::Place) -> Place {
+    match p.buffer {
+        0 => Place::Nowhere,
+        1 => Place::Card { at: p.at, len: p.len },
+        _ => Place::Staging { at: p.at, len: p.len },
+    }
+}
+
+// ---- words for people
+
+fn name(call: &Call) -> &'static str {
+    match call {
+        Call::Mount { .. } => "mount",
+        Call::Begin { .. } => "begin",
+        Call::Ingress { .. } => "ingress",
+        Call::Write { .. } => "write",
+        Call::Read { .. } => "read",
+        Call::Open { .. } => "tl_open",
+        Call::Next { .. } => "tl_next",
+        Call::Close { .. } => "tl_close",
+        Call::Return { .. } => "return",
+        Call::LookUp { .. } => "look-up",
+    }
+}
+
+fn short(said: &Said) -> String {
+    match said {
+        Said::Mounted { code, .. } => format!("{code}"),
+        Said::Answer { code: 0, value: 0 } => "0".into(),
+        Said::Answer { code: 0, .. } => "above 0".into(),
+        Said::Answer { code, .. } => format!("{code}"),
+        Said::Fate(Fate::Refused(code)) => format!("{code}"),
+        Said::Fate(Fate::Discarded(code)) => format!("discarded {code}"),
+        Said::Fate(Fate::Running) => "running".into(),
+        Said::Fate(Fate::Committed { events: 0, .. }) => "committed, empty".into(),
+        Said::Fate(Fate::Committed { .. }) => "committed".into(),
+        Said::Place(Place::Nowhere) => "nowhere".into(),
+        Said::Place(Place::Card { .. }) => "on the card".into(),
+        Said::Place(Place::Staging { .. }) => "in staging".into(),
+    }
+}
+
+/// A call, with the bytes of its argument record.
+fn told(call: &Call, memory: &[u8]) -> String {
+    let (at, size) = match call {
+        Call::Write { at } | Call::Read { at } => (*at, 40),
+        Call::Open { at } => (*at, 48),
+        Call::Next { at } => (*at, 24),
+        Call::Close { at } => (*at, 8),
+        _ => return format!("{call:?}").chars().take(2_000).collect(),
+    };
+    let words = model::bytes::span(memory, at, size);
+    let words: Vec<u64> = words.map_or(Vec::new(), |r| r.chunks_exact(8).map(|w| model::bytes::u64_at(w, 0)).collect());
+    format!("{call:?} in a memory of {}, its record {words:?}", memory.len())
+}
+
+fn fields(model: &raw::State, ours: &raw::State) -> String {
+    let (a, b) = (format!("{model:#?}"), format!("{ours:#?}"));
+    let apart: Vec<String> =
+        a.lines().zip(b.lines()).filter(|(x, y)| x != y).map(|(x, y)| format!("{} / {}", x.trim(), y.trim())).collect();
+    format!("the model's state and the host's differ: {}", apart.join(", "))
+}
+
+fn bytes(name: &str, model: &[u8], ours: &[u8]) -> String {
+    let at = model.iter().zip(ours).position(|(a, b)| a != b).unwrap_or(0);
+    let shown = |s: &[u8]| s[at..(at + 16).min(s.len())].to_vec();
+    format!("{name} differs from byte {at} on: the model has {:?}, the host {:?}", shown(model), shown(ours))
+}

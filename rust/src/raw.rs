@@ -1,0 +1,198 @@
+//! The archive as include/loafheron.h has it: structs of plain numbers, and a slice as a pointer and a length.
+
+#[repr(C)]
+#[derive(Clone, Copy, Debug, PartialEq, Eq)]
+pub struct Room {
+    pub handle: u64,
+    pub from: u64,
+    pub to: u64,
+    pub limit: u64,
+    pub desc: u64,
+    pub size: u64,
+    pub filter: [u8; 64],
+}
+
+#[repr(C)]
+#[derive(Clone, Copy, Debug, PartialEq, Eq)]
+pub struct State {
+    pub staging_len: u64,
+    pub card_len: u64,
+    pub manifest_len: u64,
+    pub used: u64,
+    pub next: u64,
+    pub faulted: u64,
+    pub running: u64,
+    pub spoiled: i64,
+    pub turn: u64,
+    pub late: u64,
+    pub staged: u64,
+    pub count: u64,
+    pub units: u64,
+    pub res_max: u64,
+    pub time: u64,
+    pub opened: u64,
+    pub trace: [u8; 32],
+    pub rooms: [Room; 4],
+}
+
+#[repr(C)]
+#[derive(Clone, Copy, Debug, PartialEq, Eq)]
+pub struct Mounted {
+    pub code: i64,
+    pub at: u64,
+    pub state: State,
+}
+
+#[repr(C)]
+#[derive(Clone, Copy, Debug, PartialEq, Eq)]
+pub struct Answer {
+    pub code: i64,
+    pub value: u64,
+    pub state: State,
+}
+
+#[repr(C)]
+#[derive(Clone, Copy, Debug, PartialEq, Eq)]
+pub struct Outcome {
+    pub kind: u64,
+    pub code: i64,
+    pub events: u64,
+    pub bytes: u64,
+}
+
+#[repr(C)]
+#[derive(Clone, Copy, Debug, PartialEq, Eq)]
+pub struct Returned {
+    pub outcome: Outcome,
+    pub state: State,
+}
+
+#[repr(C)]
+#[derive(Clone, Copy, Debug, PartialEq, Eq)]
+pub struct Place {
+    pub buffer: u64,
+    pub at: u64,
+    pub len: u64,
+}
+
+// The same numbers stand in include/loafheron.h and in crates/embed.
+const _: () = assert!(size_of::<Room>() == 112 && size_of::<State>() == 608);
+const _: () = assert!(size_of::<Mounted>() == 624 && size_of::<Answer>() == 624);
+const _: () = assert!(size_of::<Outcome>() == 32 && size_of::<Returned>() == 640 && size_of::<Place>() == 24);
+
+extern "C" {
+    pub fn loafheron_state_size() -> u64;
+    pub fn loafheron_mount(
+        staging: *const u8,
+        staging_len: usize,
+        card: *const u8,
+        card_len: usize,
+        manifest: *const u8,
+        manifest_len: usize,
+        used: u64,
+    ) -> Mounted;
+    pub fn loafheron_begin(
+        state: State,
+        staging: *mut u8,
+        staging_len: usize,
+        card: *const u8,
+        card_len: usize,
+        manifest: *const u8,
+        manifest_len: usize,
+        args: *const u8,
+        args_len: usize,
+    ) -> Answer;
+    pub fn loafheron_ingress(
+        state: State,
+        staging: *mut u8,
+        staging_len: usize,
+        card: *const u8,
+        card_len: usize,
+        manifest: *const u8,
+        manifest_len: usize,
+        topic: *const u8,
+        topic_len: usize,
+        payload: *const u8,
+        payload_len: usize,
+    ) -> Answer;
+    pub fn loafheron_write(
+        state: State,
+        memory: *const u8,
+        memory_len: usize,
+        staging: *mut u8,
+        staging_len: usize,
+        card: *const u8,
+        card_len: usize,
+        manifest: *const u8,
+        manifest_len: usize,
+        at: u64,
+    ) -> Answer;
+    pub fn loafheron_read(
+        state: State,
+        memory: *mut u8,
+        memory_len: usize,
+        staging: *const u8,
+        staging_len: usize,
+        card: *const u8,
+        card_len: usize,
+        manifest: *const u8,
+        manifest_len: usize,
+        at: u64,
+    ) -> Answer;
+    pub fn loafheron_open(
+        state: State,
+        memory: *const u8,
+        memory_len: usize,
+        staging: *const u8,
+        staging_len: usize,
+        card: *const u8,
+        card_len: usize,
+        manifest: *const u8,
+        manifest_len: usize,
+        at: u64,
+    ) -> Answer;
+    pub fn loafheron_next(
+        state: State,
+        memory: *mut u8,
+        memory_len: usize,
+        staging: *const u8,
+        staging_len: usize,
+        card: *const u8,
+        card_len: usize,
+        manifest: *const u8,
+        manifest_len: usize,
+        at: u64,
+    ) -> Answer;
+    pub fn loafheron_close(
+        state: State,
+        memory: *const u8,
+        memory_len: usize,
+        staging: *const u8,
+        staging_len: usize,
+        card: *const u8,
+        card_len: usize,
+        manifest: *const u8,
+        manifest_len: usize,
+        at: u64,
+    ) -> Answer;
+    pub fn loafheron_return(
+        state: State,
+        staging: *mut u8,
+        staging_len: usize,
+        card: *mut u8,
+        card_len: usize,
+        manifest: *const u8,
+        manifest_len: usize,
+        code: i64,
+    ) -> Returned;
+    pub fn loafheron_look_up(
+        state: State,
+        staging: *const u8,
+        staging_len: usize,
+        card: *const u8,
+        card_len: usize,
+        manifest: *const u8,
+        manifest_len: usize,
+        id: u64,
+    ) -> Place;
+}

@@ -1,0 +1,151 @@
+//! The archive through its safe owner: document 01's own session, its edges, and arguments that are wrong.
+use loafheron::host::{self, Buffers, Fate, Host};
+use loafheron::{lent, raw};
+
+const MANIFEST: &[u8] = b"modules\t1\ngrant\t1\tout\tloop/take\ngrant\t1\tin\tloop/take\n";
+
+fn buffers() -> Buffers {
+    Buffers { staging: vec![0; 65_536], card: vec![0; 65_536], manifest: MANIFEST.to_vec() }
+}
+
+fn weave(res_max: u64, time: u64) -> Vec<u8> {
+    let mut args = vec![0; 128];
+    args[24..32].copy_from_slice(&res_max.to_le_bytes());
+    args[48..56].copy_from_slice(&time.to_le_bytes());
+    args
+}
+
+fn put(memory: &mut [u8], at: usize, words: &[u64]) {
+    for (i, w) in words.iter().enumerate() {
+        memory[at + 8 * i..at + 8 * i + 8].copy_from_slice(&w.to_le_bytes());
+    }
+}
+
+/// A raw write whose record lies at 8, the topic at 64, the payload at 128.
+fn write(host: &mut Host, memory: &mut [u8], topic: &[u8], payload: &[u8]) -> host::Answer {
+    memory[64..64 + topic.len()].copy_from_slice(topic);
+    memory[128..128 + payload.len()].copy_from_slice(payload);
+    put(memory, 8, &[64, topic.len() as u64, 128, payload.len() as u64, 1]);
+    host.write(memory, 8)
+}
+
+fn open(host: &mut Host, memory: &mut [u8], filter: &[u8]) -> host::Answer {
+    memory[64..64 + filter.len()].copy_from_slice(filter);
+    put(memory, 8, &[64, filter.len() as u64, 1, 9, 9, 0]);
+    host.open(memory, 8)
+}
+
+fn next(host: &mut Host, memory: &mut [u8], handle: u64, cap: u64) -> host::Answer {
+    put(memory, 8, &[handle, 8, cap]);
+    host.next(memory, 8)
+}
+
+fn session(units: u64) -> (Host, Vec<u8>) {
+    let mut memory = vec![0; 65_536];
+    let mut host = Host::mount(buffers(), 0).ok().unwrap();
+    assert_eq!(host.begin(&weave(100, 5_000)), Ok(0));
+    assert_eq!(write(&mut host, &mut memory, b"loop/take", b"verse"), Ok(0));
+    assert_eq!(host.module_return(0), Fate::Committed { events: 1, bytes: 152 });
+    assert_eq!(host.begin(&weave(units, 6_000)), Ok(0));
+    assert_eq!(write(&mut host, &mut memory, b"loop/take", b"chorus"), Ok(0));
+    assert_eq!(open(&mut host, &mut memory, b"loop/"), Ok(1));
+    (host, memory)
+}
+
+#[test]
+fn document_01s_session_runs_out_of_budget() {
+    let (mut host, mut memory) = session(30);
+    assert_eq!(next(&mut host, &mut memory, 1, 152), Err(-6));
+    assert_eq!(next(&mut host, &mut memory, 1, 152), Err(-6));
+    assert_eq!(host.module_return(0), Fate::Discarded(-6));
+    assert_eq!(host.used().len(), 152);
+    assert_eq!(&host.look_up(1)[144..149], b"verse");
+    assert!(host.look_up(2).is_empty());
+}
+
+#[test]
+fn document_01s_session_with_60_units() {
+    let (mut host, mut memory) = session(60);
+    assert_eq!(&host.look_up(2)[144..150], b"chorus");
+    assert_eq!(next(&mut host, &mut memory, 1, 152), Ok(152));
+    assert_eq!(&memory[8 + 128..8 + 137], b"loop/take");
+    assert_eq!(&memory[8 + 144..8 + 149], b"verse");
+    assert_eq!(next(&mut host, &mut memory, 1, 152), Ok(0));
+    assert_eq!(host.module_return(0), Fate::Committed { events: 1, bytes: 152 });
+    assert_eq!(host.used().len(), 304);
+    let used = host.used().len() as u64;
+    let again = Host::mount(host.into_buffers(), used).ok().unwrap();
+    assert_eq!(again.state().next, 3);
+}
+
+/// P5 and P6, and sums that wrap: an address or a length that is wrong gets -5, and the box goes on.
+#[test]
+fn a_wrong_pointer_or_length_gets_its_code_and_the_box_goes_on() {
+    let (mut host, mut memory) = session(1_000);
+    memory.truncate(65_535);
+    memory.push(0);
+    for at in [0, 4, 9, 65_504, 65_536, u64::MAX, u64::MAX - 7, 1 << 63] {
+        assert_eq!(host.write(&memory, at), Err(-5), "record at {at}");
+    }
+    for (ptr, len) in
+        [(65_529, 8), (0, 1), (65_536, 1), (u64::MAX, 2), (u64::MAX - 7, 8), (8, u64::MAX), (1 << 63, 1 << 63)]
+    {
+        memory[64..73].copy_from_slice(b"loop/take");
+        put(&mut memory, 8, &[64, 9, ptr, len, 1]);
+        assert_eq!(host.write(&memory, 8), Err(-5), "payload ({ptr}, {len})");
+        put(&mut memory, 8, &[ptr, len, 128, 1, 1]);
+        assert_eq!(host.write(&memory, 8), Err(-5), "topic ({ptr}, {len})");
+    }
+    for (ptr, len) in [(65_536, 0), (65_528, 8), (0, 0)] {
+        put(&mut memory, 8, &[64, 9, ptr, len, 1]);
+        assert_eq!(host.write(&memory, 8), Ok(0), "payload ({ptr}, {len})");
+    }
+    assert_eq!(host.module_return(0), Fate::Committed { events: 4, bytes: 152 + 152 + 144 + 144 });
+}
+
+#[test]
+fn a_wrong_memory_gets_its_code_and_the_box_goes_on() {
+    let (mut host, mut memory) = session(1_000);
+    let mut large = vec![0; 1_048_577];
+    assert_eq!(host.read(&mut large, 8), Err(-5));
+    assert_eq!(host.read(&mut [], 8), Err(-5));
+    assert_eq!(next(&mut host, &mut memory, 1, 152), Ok(152));
+}
+
+/// Lengths that are not those at mount, a card in pieces, a manifest gone bad: each by the functions without an owner.
+#[test]
+fn wrong_buffers_get_their_codes() {
+    let mut b = buffers();
+    let state = lent::mount(&b, 0).state;
+    b.card.push(0);
+    assert_eq!(lent::begin(state, &mut b, &weave(1, 1)).code, -5);
+    b.card.pop();
+    b.manifest[0] = b'M';
+    assert_eq!(lent::begin(state, &mut b, &weave(1, 1)).code, -5);
+    assert_eq!(lent::mount(&b, 0).code, -5);
+    b.manifest[0] = b'm';
+    let refused = lent::mount(&b, 65_536);
+    assert_eq!((refused.code, refused.at, refused.state.card_len), (-3, 0, 0));
+    assert_eq!(lent::mount(&b, 65_537).code, -5);
+    assert_eq!(lent::begin(state, &mut b, &weave(1, 1)).code, 0);
+}
+
+/// A flag that is neither 0 nor 1 says yes, a mark that is no reason says panic; the state that comes back has 1 and -1.
+#[test]
+fn numbers_that_no_state_has_are_taken_as_yes() {
+    let mut b = buffers();
+    let mut state = lent::begin(lent::mount(&b, 0).state, &mut b, &weave(9, 9)).state;
+    state.running = 77;
+    state.spoiled = -4;
+    let a = lent::read(state, &mut [], &b, 8);
+    assert_eq!((a.code, a.state.running, a.state.spoiled), (-1, 1, -1));
+    state.spoiled = 0;
+    state.late = u64::MAX;
+    let a = lent::ingress(state, &mut b, b"a", b"");
+    assert_eq!((a.code, a.state.late), (-2, 1));
+}
+
+#[test]
+fn the_archive_has_the_state_of_the_header() {
+    assert_eq!(unsafe { raw::loafheron_state_size() }, size_of::<raw::State>() as u64);
+}

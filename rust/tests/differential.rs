@@ -1,0 +1,40 @@
+//! The ordinary differential run. `tests/differ --calls N` makes longer ones.
+use loafheron::differ;
+
+const CALLS: u64 = 200_000;
+
+#[test]
+fn the_host_and_its_twin_agree() {
+    let run = differ::run(1, CALLS);
+    if let Some((life, difference)) = &run.failed {
+        panic!("{}", differ::told(*life, difference));
+    }
+    assert!(CALLS <= run.calls);
+}
+
+/// A run that never saw an answer says nothing about it: each code of each operation came up.
+#[test]
+fn every_answer_came_up() {
+    let run = differ::run(1, CALLS);
+    let module = ["0", "-1", "-2", "-5", "-6"];
+    let wanted = [
+        ("mount", &["0", "-3", "-5"][..]),
+        ("begin", &["0", "-1", "-2", "-5"]),
+        ("ingress", &["0", "-2", "-4", "-5"]),
+        ("write", &["0", "-1", "-2", "-4", "-5", "-6", "-7"]),
+        ("read", &["0", "above 0", "-1", "-2", "-3", "-4", "-5", "-6"]),
+        ("tl_open", &["above 0", "-1", "-2", "-4", "-5", "-6"]),
+        ("tl_next", &["0", "above 0", "-1", "-2", "-3", "-4", "-5", "-6"]),
+        ("tl_close", &module),
+        ("return", &["-2", "-5", "running", "committed", "committed, empty"]),
+        ("look-up", &["nowhere", "on the card", "in staging"]),
+    ];
+    for (call, answers) in wanted {
+        for answer in answers {
+            assert!(run.tally.contains_key(&(call, answer.to_string())), "{call} never said {answer}");
+        }
+    }
+    for code in -7..=-1 {
+        assert!(run.tally.contains_key(&("return", format!("discarded {code}"))), "no weave was discarded with {code}");
+    }
+}
