@@ -12,7 +12,7 @@ use Rattle.weave.specs.Codes.{isFine, need, firstOf}
 use Rattle.takes.specs.Begun.{begun}
 use Rattle.host.specs.declared.Host.{Host}
 use Rattle.host.specs.declared.Answer.{Answer}
-use Rattle.host.specs.Hosts.{Lent, withWeave, lentCheck}
+use Rattle.host.specs.Hosts.{Lent, withWeave, lentCheck, settle}
 
 unfoldable pub beginCheck : Lent → Host → List ℕ → Code
 beginCheck l h args =
@@ -24,8 +24,7 @@ beginCheck l h args =
     ∷ [])
 
 unfoldable pub beginAnswer : Lent → Host → List ℕ → Answer
-beginAnswer l h args =
-    record { code = beginCheck l h args; value = 0; host = cond (isFine (beginCheck l h args)) (withWeave h (begun args)) h }
+beginAnswer l h args = settle h (beginCheck l h args) 0 (withWeave h (begun args))
 
 -- "Staging becomes all 0"
 unfoldable pub beginStaging : Lent → Host → List ℕ → List ℕ

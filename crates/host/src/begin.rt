@@ -1,6 +1,5 @@
 // begin.
 ghost use mathlib.Core.Path.{_≡_};
-ghost use mathlib.Core.Bool.{cond};
 ghost use Rattle.host.specs.Hosts.{lentAs};
 ghost use Rattle.host.specs.Begin.{beginAnswer, beginStaging};
 ghost use Rattle.takes.specs.Begun.{begun};
@@ -12,13 +11,6 @@ use takes::begun::begun;
 use takes::buffers::clear_if;
 use weave::Code;
 use weave::codes::need;
-
-// One of two states.
-pub(crate) fn choose(t: bool, a: Host, b: Host) -> Host
-    ensures { λ r. ⌜ r ≡ cond t a b ⌝ }
-{
-    if t { a } else { b }
-}
 
 impl Host {
     pub fn begin(self, staging: &mut [u8], card: &[u8], manifest: &[u8], args: &[u8]) -> Answer
@@ -33,14 +25,8 @@ impl Host {
         let three = need(!self.faulted, Code::Denied);
         let four = need(args.len() == 128, Code::Bad);
         let check = one.then(two.then(three.then(four)));
-        let t = check.fine();
         let next = self.with_weave(begun(args));
-        let host = choose(t, next, self);
-        clear_if(t, staging);
-        Answer {
-            code: check,
-            value: 0,
-            host,
-        }
+        clear_if(check.fine(), staging);
+        self.settle(check, 0, next)
     }
 }

@@ -14,15 +14,15 @@ use Rattle.weave.specs.declared.Code.{Code}
 use Rattle.weave.specs.declared.Code.the-variants.{Fine}
 use Rattle.weave.specs.declared.Spoiled.the-variants.{Overspent}
 use Rattle.weave.specs.Codes.{isFine, isBudget}
+use Rattle.weave.specs.Moves.{openedWith, movedTo, closedAt}
 use Rattle.weave.specs.States.{freshWeave, spoilt}
 use Rattle.weave.proofs.SumLaws.{added-sum}
-use Rattle.takes.specs.Begun.{begun}
 use Rattle.host.specs.declared.Host.{Host}
 use Rattle.host.specs.declared.Answer.{Answer}
 use Rattle.host.specs.declared.Fate.{Fate}
 use Rattle.host.specs.declared.Fate.the-variants.{Refused, Discarded, Running, Committed}
 use Rattle.host.specs.Hosts.{Lent, lentAs, withWeave, refused, settle}
-use Rattle.host.specs.Begin.{beginCheck, beginAnswer}
+use Rattle.host.specs.Begin.{beginAnswer}
 use Rattle.host.specs.Stage.{ingressAnswer, isPanic, panicked, written, writeAnswer}
 use Rattle.host.specs.Reading.{readAnswer}
 use Rattle.host.specs.Cursors.{openNext, openAnswer, closeNext, closeAnswer}
@@ -68,14 +68,6 @@ module _ (w : World) where
       → SameCard w (record { host = g; lent = lentAs staging (l .card) (l .text) })
   same-by staging g k = same-weave w g staging (k .0) (k .1 .0) (k .1 .1)
 
-  begin-kept : (args : List ℕ) → (beginAnswer l h args .host .lengths ≡ h .lengths) × ((beginAnswer l h args .host .used ≡ h .used) × (beginAnswer l h args .host .next ≡ h .next))
-  unfolding beginAnswer withWeave
-  begin-kept args = go (isFine (beginCheck l h args))
-    where
-      go : (t : Bool) → (cond t (withWeave h (begun args)) h .lengths ≡ h .lengths) × ((cond t (withWeave h (begun args)) h .used ≡ h .used) × (cond t (withWeave h (begun args)) h .next ≡ h .next))
-      go true = (refl, (refl, refl))
-      go false = (refl, (refl, refl))
-
   written-kept : (p : Bool) (t d n : ℕ) → (written h p t d n .lengths ≡ h .lengths) × ((written h p t d n .used ≡ h .used) × (written h p t d n .next ≡ h .next))
   unfolding written panicked withWeave
   written-kept true t d n = (refl, (refl, refl))
@@ -91,8 +83,8 @@ module _ (w : World) where
 
   -- THE PROMISE: the card changes only where committed is said
   pub only-commit : (o : Op) → saysCommitted (step w o .said) ≡ false → SameCard w (step w o .world)
-  unfolding step ingressAnswer writeAnswer readAnswer openAnswer nextAnswer closeAnswer returnAnswer returnCard returnStaging withWeave openNext nextHost closeNext
-  only-commit (Begin args) e = same-by _ _ (begin-kept args)
+  unfolding step beginAnswer ingressAnswer writeAnswer readAnswer openAnswer nextAnswer closeAnswer returnAnswer returnCard returnStaging withWeave openNext openedWith nextHost movedTo closeNext closedAt
+  only-commit (Begin args) e = same-by _ _ (settle-kept h _ _ _ (refl, (refl, refl)))
   only-commit (Ingress topic payload) e = same-by _ _ (settle-kept h _ _ _ (refl, (refl, refl)))
   only-commit (Write m a) e = same-by _ _ (settle-kept h _ _ _ (written-kept (isPanic m a) _ _ _))
   only-commit (Read m a) e = same-by _ _ (settle-kept h _ _ _ (refl, (refl, refl)))

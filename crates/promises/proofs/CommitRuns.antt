@@ -98,7 +98,7 @@ module _ (n c : ℕ) (n-least : 65536 ≤ n) (n-most : n ≤ 1048576) (c-least :
   w₁ = record { host = withWeave h₀ (begun (zeros 128)); lent = lentAs (zeros (length (zeros n))) (zeros c) oneModule }
 
   begins : step (mountedAs l 0) (Begin (zeros 128)) .world ≡ w₁
-  unfolding step beginAnswer beginStaging
+  unfolding step beginAnswer beginStaging settle
   begins = rw (mount-host, begin-fine)
 
   staging-long : length (w₁ .lent .staging) ≡ n

@@ -6,7 +6,7 @@ use mathlib.Core.List.{List, [], _∷_, _++_}
 use Prim.Native.Nat.{ℕ, _+_, _^_, _≤_, _<_}
 use native.Mathlib.Omega.{arith}
 use native.Mathlib.Nat.{add-zero, add-assoc}
-use borrow.Author.Tests.{not-false, leb-true}
+use borrow.Author.Tests.{leb-true}
 use lib.Dec.{leb}
 use lib.IntN.{ℤ}
 use lib.ListN.{length, take, length-replicate}
@@ -27,6 +27,7 @@ use Rattle.weave.specs.declared.Code.the-variants.{Fine, NotNow, NoRoom, Bad}
 use Rattle.weave.specs.declared.Spoiled.the-variants.{Overspent}
 use Rattle.weave.specs.Codes.{isFine, isBudget, need}
 use Rattle.weave.specs.Sums.{added}
+use Rattle.weave.specs.Moves.{openedWith, movedTo, closedAt}
 use Rattle.weave.specs.States.{freshWeave, begunWeave, paid, holding, tabled, spoilt, turned}
 use Rattle.weave.specs.Checks.{budgetCheck}
 use Rattle.weave.proofs.CodeLaws.{need-test, first-right}
@@ -190,9 +191,9 @@ module _ (w : World) (d : Diary) (a : Agrees w d) where
   h = w .host
 
   begin-agrees : (args : List ℕ) → isRefused (step w (Begin args) .said) ≡ false → Agrees (step w (Begin args) .world) (emptied d)
-  unfolding step beginAnswer beginStaging begun begunWeave withWeave
+  unfolding step beginAnswer beginStaging settle refused begun begunWeave withWeave
   begin-agrees args e =
-      rw (not-false (isFine (beginCheck l h args)) e) (agree-empty _ _ _ _ _ _ _ _ d a (traceOf args) _ (trace-long args))
+      rw (settle-ok h (beginCheck l h args) 0 _ e) (agree-empty _ _ _ _ _ _ _ _ d a (traceOf args) _ (trace-long args))
 
   ingress-agrees : (topic payload : List ℕ) → isRefused (step w (Ingress topic payload) .said) ≡ false
       → Agrees (step w (Ingress topic payload) .world) (held d (ingressRecord w topic payload))
@@ -236,7 +237,7 @@ module _ (w : World) (d : Diary) (a : Agrees w d) where
       (first-right (pageCode (nextPage l h m at)) (budgetCheck (h .weave) (pageCharge (nextPage l h m at))) (first-right (nextSound l h m at) _ f))
 
   next-agrees : (m : List ℕ) (at : ℕ) → isRefused (step w (Next m at) .said) ≡ false → Agrees (step w (Next m at) .world) (noted w d (Next m at))
-  unfolding step nextAnswer settle refused nextHost withWeave paid tabled
+  unfolding step nextAnswer settle refused nextHost movedTo withWeave paid tabled
   next-agrees m at e =
       let f = settle-ok h (nextCheck l h m at) _ _ e in
       rw f (agree-paid _ _ _ _ _ _ _ _ d a (h .weave .resmax) (pageCharge (nextPage l h m at)) (next-budget m at f))
@@ -248,7 +249,7 @@ module _ (w : World) (d : Diary) (a : Agrees w d) where
       (first-right (need _ NoRoom) _ (first-right (need _ Bad) _ (first-right (need _ Bad) _ (first-right (need _ Bad) _ (first-right (gateCheck l h (length m)) _ f)))))
 
   open-agrees : (m : List ℕ) (at : ℕ) → isRefused (step w (Open m at) .said) ≡ false → Agrees (step w (Open m at) .world) (spent d 1)
-  unfolding step openAnswer settle refused openNext withWeave paid tabled
+  unfolding step openAnswer settle refused openNext openedWith withWeave paid tabled
   open-agrees m at e =
       let f = settle-ok h (openCheck l h m at) _ _ e in
       rw f (agree-paid _ _ _ _ _ _ _ _ d a (h .weave .resmax) 1 (open-budget m at f))
@@ -259,7 +260,7 @@ module _ (w : World) (d : Diary) (a : Agrees w d) where
       budget-paid (h .weave) 1 (first-right (need _ NotNow) _ (first-right (need _ Bad) _ (first-right (gateCheck l h (length m)) _ f)))
 
   close-agrees : (m : List ℕ) (at : ℕ) → isRefused (step w (Close m at) .said) ≡ false → Agrees (step w (Close m at) .world) (spent d 1)
-  unfolding step closeAnswer settle refused closeNext withWeave paid tabled
+  unfolding step closeAnswer settle refused closeNext closedAt withWeave paid tabled
   close-agrees m at e =
       let f = settle-ok h (closeCheck l h m at) _ _ e in
       rw f (agree-paid _ _ _ _ _ _ _ _ d a (h .weave .resmax) 1 (close-budget m at f))

@@ -22,6 +22,7 @@ use Rattle.weave.specs.declared.Code.the-variants.{Fine}
 use Rattle.weave.specs.declared.Slot.{Slot}
 use Rattle.weave.specs.Codes.{isFine}
 use Rattle.weave.specs.Sums.{added}
+use Rattle.weave.specs.Moves.{cursorOf, openedWith}
 use Rattle.weave.specs.States.{paid, tabled}
 use Rattle.weave.specs.Args.{openArgs, nextArgs}
 use Rattle.weave.specs.Checks.{slotFine, budgetCheck}
@@ -32,7 +33,7 @@ use Rattle.takes.specs.Opening.{opening}
 use Rattle.takes.specs.Pages.{pageBytes, pageCode, pageCharge}
 use Rattle.host.specs.Hosts.{withWeave, gateCheck, settle}
 use Rattle.host.specs.Cursors.{openCheck, openNext, openAnswer}
-use Rattle.host.specs.Paging.{nextSound, cursorOf, nextList, nextPage, nextCheck, nextAnswer}
+use Rattle.host.specs.Paging.{nextSound, nextList, nextPage, nextCheck, nextAnswer}
 use Rattle.host.proofs.PagingLaws.{next-sound}
 use Rattle.promises.specs.Box.{World, Op, Begin, Ingress, Write, Read, Open, Next, Close, Return, LookUp, Answered, step, isRefused, run}
 use Rattle.promises.specs.Diary.{answerOf}
@@ -56,7 +57,7 @@ records-long s id = all-at Long (records s id) (λ k h. good-long (getD (records
 
 pub left-long : (w : World) (k : ℕ) → All Long (listLeft w k)
 unfolding nextList
-left-long w k = listed-has Long (mayRead (w .lent .text) (w .host .weave .turn)) (cursorOf (w .host) k) _ (records-long (take (w .host .used) (w .lent .card)) 1)
+left-long w k = listed-has Long (mayRead (w .lent .text) (w .host .weave .turn)) (cursorOf (w .host .weave) k) _ (records-long (take (w .host .used) (w .lent .card)) 1)
 
 size-some : (cap : ℕ) (r : List ℕ) (t : List (List ℕ)) → leb (length r) cap ≡ true → length r ≤ size (fit cap (r ∷ t))
 unfolding fit
@@ -203,7 +204,7 @@ module _ (w : World) (t : TidyIn w) (m : List ℕ) (at k : ℕ) (o : step w (Ope
 
   -- the cursor is followed from here on, and nothing of its list is out
   pub open-follows : FollowedIn (step w (Open m at) .world) k (listLeft (step w (Open m at) .world) k) []
-  unfolding step openAnswer settle openNext withWeave paid tabled nextList cursorOf
+  unfolding step openAnswer settle openNext openedWith withWeave paid tabled nextList cursorOf
   open-follows =
       rw (opened-fine, handle-sum, handle-next)
       (record {
@@ -217,7 +218,7 @@ module _ (w : World) (t : TidyIn w) (m : List ℕ) (at k : ℕ) (o : step w (Ope
   -- what it lists: every committed event that filter, window and grants allow, cut to the limit
   pub open-lists : listLeft (step w (Open m at) .world) k
       ≡ listOf (mayRead (w .lent .text) (w .host .weave .turn)) (opening m (openArgs m at) k .cursor) (records (take (w .host .used) (w .lent .card)) 1)
-  unfolding step openAnswer settle openNext withWeave paid tabled nextList cursorOf slotOf
+  unfolding step openAnswer settle openNext openedWith withWeave paid tabled nextList cursorOf slotOf
   open-lists =
       rw (opened-fine, handle-sum, handle-next)
       (ap (λ (c : Cursor). listOf (mayRead (w .lent .text) (w .host .weave .turn)) c (records (take (w .host .used) (w .lent .card)) 1)) new-cursor)

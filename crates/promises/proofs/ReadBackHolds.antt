@@ -23,11 +23,12 @@ use Rattle.card.proofs.WalkLaws.{to-count, recordOf-is}
 use Rattle.card.proofs.ListingLaws.{listed-has}
 use Rattle.card.proofs.PageLaws.{size-fit}
 use Rattle.weave.specs.Codes.{isFine}
+use Rattle.weave.specs.Moves.{cursorOf}
 use Rattle.weave.specs.Args.{writeArgs, nextArgs}
 use Rattle.takes.specs.Payloads.{payloadBytes}
 use Rattle.host.specs.Hosts.{lentCheck}
 use Rattle.host.specs.Stage.{headerFor, ingressCheck, ingressAnswer, ingressStaging, isPanic, writtenTopic, writeCheck, writeAnswer, writeStaging}
-use Rattle.host.specs.Paging.{cursorOf, nextList, nextPart, nextCheck, nextAnswer, nextMemory}
+use Rattle.host.specs.Paging.{nextList, nextPart, nextCheck, nextAnswer, nextMemory}
 use Rattle.host.specs.Mount.{looked}
 use Rattle.host.proofs.PagingLaws.{next-lies}
 use Rattle.promises.specs.Box.{World, Ingress, Write, Next, LookUp, Part, step, isRefused}
@@ -113,5 +114,5 @@ page-stands w m at e =
     let list = nextList (w .lent) (w .host) (nextArgs m at .handle) in
     rw c
     (has-page m (nextArgs m at .out .ptr) (fit cap list)
-    (all-fit Framed cap list (listed-has Framed (mayRead (w .lent .text) (w .host .weave .turn)) (cursorOf (w .host) (nextArgs m at .handle)) _ (records-framed (take (w .host .used) (w .lent .card)) 1)))
+    (all-fit Framed cap list (listed-has Framed (mayRead (w .lent .text) (w .host .weave .turn)) (cursorOf (w .host .weave) (nextArgs m at .handle)) _ (records-framed (take (w .host .used) (w .lent .card)) 1)))
     (omega (arith, size-fit cap list, next-lies (w .lent) (w .host) m at c)))

@@ -17,7 +17,7 @@ use Rattle.card.specs.Listing.{fit, pageOf}
 use Rattle.card.specs.declared.Page.the-variants.{Short, Bytes}
 use Rattle.card.proofs.PageLaws.{length-shownFrom}
 use Rattle.weave.specs.declared.Code.{Code}
-use Rattle.weave.specs.declared.Code.the-variants.{Fine, Denied, NotNow, Bad}
+use Rattle.weave.specs.declared.Code.the-variants.{Fine, NotNow, Bad}
 use Rattle.weave.specs.declared.Spoiled.the-variants.{Overspent}
 use Rattle.weave.specs.Codes.{isFine, isBudget, need, first}
 use Rattle.weave.specs.States.{spoilt}
@@ -28,7 +28,7 @@ use Rattle.host.specs.declared.Host.{Host}
 use Rattle.host.specs.declared.Fate.{Fate}
 use Rattle.host.specs.declared.Fate.the-variants.{Refused, Discarded, Running, Committed}
 use Rattle.host.specs.Hosts.{Lent, withWeave, lentCheck, refused, settle}
-use Rattle.host.specs.Begin.{beginCheck, beginAnswer, beginStaging}
+use Rattle.host.specs.Begin.{beginAnswer, beginStaging}
 use Rattle.host.specs.Stage.{ingressAnswer, ingressStaging, writeAnswer, writeStaging}
 use Rattle.host.specs.Reading.{readSound, readPage, readCheck, readAnswer, readMemory}
 use Rattle.host.specs.Cursors.{openAnswer, closeAnswer}
@@ -81,12 +81,6 @@ lent-mild : (l : Lent) (h : Host) → isBudget (lentCheck l h) ≡ false
 unfolding lentCheck
 lent-mild l h = need-mild _ Bad refl
 
-begin-mild : (l : Lent) (h : Host) (args : List ℕ) → isBudget (beginCheck l h args) ≡ false
-unfolding beginCheck
-begin-mild l h args =
-    first-mild (lentCheck l h) _ (lent-mild l h)
-    (first-mild (need _ NotNow) _ (need-mild _ NotNow refl) (first-mild (need _ Denied) _ (need-mild _ Denied refl) (need-mild _ Bad refl)))
-
 return-mild : (l : Lent) (h : Host) → isBudget (returnCheck l h) ≡ false
 unfolding returnCheck
 return-mild l h = first-mild (lentCheck l h) _ (lent-mild l h) (need-mild _ NotNow refl)
@@ -130,9 +124,7 @@ module _ (w : World) (c : Code) (v : ℕ) (next : Host) (e : not (isFine (settle
 
 pub refusal : (w : World) (o : Op) → isRefused (step w o .said) ≡ true → Unchanged w o (step w o)
 unfolding step beginAnswer beginStaging ingressAnswer ingressStaging writeAnswer writeStaging readAnswer readMemory openAnswer nextAnswer nextMemory closeAnswer returnAnswer returnCard returnStaging finished
-refusal w (Begin args) e =
-    let f = not-true (isFine (beginCheck (w .lent) (w .host) args)) e in
-    record { lent = rw f; memory = refl; host = rw (f, begin-mild (w .lent) (w .host) args) }
+refusal w (Begin args) e = record { lent = rw (fault w _ _ _ e); memory = refl; host = left w _ _ _ e }
 refusal w (Ingress topic payload) e = record { lent = rw (fault w _ _ _ e); memory = refl; host = left w _ _ _ e }
 refusal w (Write m a) e = record { lent = rw (fault w _ _ _ e); memory = refl; host = left w _ _ _ e }
 refusal w (Read m a) e = record { lent = refl; memory = rw (fault w _ _ _ e); host = left w _ _ _ e }

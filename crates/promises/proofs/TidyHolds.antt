@@ -5,7 +5,7 @@ use mathlib.Core.Bool.{Bool, true, false, cond}
 use mathlib.Core.List.{List, [], _∷_}
 use Prim.Native.Nat.{ℕ}
 use native.Mathlib.Omega.{arith}
-use borrow.Author.Tests.{not-false, ltb-true}
+use borrow.Author.Tests.{ltb-true}
 use lib.Dec.{ltb}
 use lib.ListN.{take}
 use Rattle.le.proofs.TestLaws.{and-right}
@@ -17,6 +17,7 @@ use Rattle.weave.specs.declared.Spoiled.the-variants.{Overspent}
 use Rattle.weave.specs.declared.Slot.{Slot}
 use Rattle.weave.specs.Codes.{isFine, isBudget}
 use Rattle.weave.specs.Table.{hasHandle, placeOf}
+use Rattle.weave.specs.Moves.{openedWith, movedTo, closedAt}
 use Rattle.weave.specs.States.{freshWeave, begunWeave, paid, holding, tabled, spoilt, turned}
 use Rattle.weave.specs.Args.{nextArgs, closeHandle}
 use Rattle.weave.specs.Checks.{handleFine, slotFine}
@@ -60,8 +61,8 @@ module _ (w : World) (t : TidyIn w) where
   slots′ = h .weave .slots
 
   begin-tidy : (args : List ℕ) → isRefused (step w (Begin args) .said) ≡ false → TidyIn (step w (Begin args) .world)
-  unfolding step beginAnswer begun begunWeave withWeave
-  begin-tidy args e = rw (not-false (isFine (beginCheck l h args)) e) (tidy-none 0)
+  unfolding step beginAnswer settle refused begun begunWeave withWeave
+  begin-tidy args e = rw (settle-ok h (beginCheck l h args) 0 _ e) (tidy-none 0)
 
   ingress-tidy : (topic payload : List ℕ) → isRefused (step w (Ingress topic payload) .said) ≡ false → TidyIn (step w (Ingress topic payload) .world)
   unfolding step ingressAnswer settle refused withWeave holding
@@ -83,21 +84,21 @@ module _ (w : World) (t : TidyIn w) where
   read-tidy m at e = rw (settle-ok h (readCheck l h m at) _ _ e) t
 
   open-tidy : (m : List ℕ) (at : ℕ) → isRefused (step w (Open m at) .said) ≡ false → TidyIn (step w (Open m at) .world)
-  unfolding step openAnswer settle refused openNext withWeave paid tabled opening slotFine
+  unfolding step openAnswer settle refused openNext openedWith withWeave paid tabled opening slotFine
   open-tidy m at e =
       let c = settle-ok h (openCheck l h m at) _ _ e in
       let few = ltb-true (h .weave .opened) 65535 (and-right (ltb (placeOf (hasHandle 0) slots′) 4) _ (open-slot l h m at c)) in
       rw (c, added-sum (h .weave .opened) 1 65535 (omega (arith, few))) (tidy-opened slots′ (h .weave .opened) t (placeOf (hasHandle 0) slots′) _ refl)
 
   next-tidy : (m : List ℕ) (at : ℕ) → isRefused (step w (Next m at) .said) ≡ false → TidyIn (step w (Next m at) .world)
-  unfolding step nextAnswer settle refused nextHost withWeave paid tabled handleFine
+  unfolding step nextAnswer settle refused nextHost movedTo withWeave paid tabled handleFine
   next-tidy m at e =
       let c = settle-ok h (nextCheck l h m at) _ _ e in
       let p = ltb-true (placeOf (hasHandle (nextArgs m at .handle)) slots′) 4 (and-right (ltb 0 (nextArgs m at .handle)) _ (next-handle l h m at c)) in
       rw c (tidy-moved slots′ (h .weave .opened) t (nextArgs m at .handle) _ refl (rw (t .four) p))
 
   close-tidy : (m : List ℕ) (at : ℕ) → isRefused (step w (Close m at) .said) ≡ false → TidyIn (step w (Close m at) .world)
-  unfolding step closeAnswer settle refused closeNext withWeave paid tabled
+  unfolding step closeAnswer settle refused closeNext closedAt withWeave paid tabled
   close-tidy m at e =
       rw (settle-ok h (closeCheck l h m at) _ _ e) (tidy-free slots′ (h .weave .opened) t (placeOf (hasHandle (closeHandle m at)) slots′))
 

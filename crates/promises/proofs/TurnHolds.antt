@@ -5,7 +5,7 @@ use mathlib.Core.Bool.{Bool, true, false, not, cond, true≢false}
 use mathlib.Core.List.{List, [], _∷_, _++_, append-assoc}
 use Prim.Native.Nat.{ℕ, _+_, _≤_, _<_}
 use native.Mathlib.Omega.{arith}
-use borrow.Author.Tests.{not-true, not-false, ltb-true, eqb-true, eqb-false}
+use borrow.Author.Tests.{not-true, ltb-true, eqb-true, eqb-false}
 use lib.Dec.{ltb, eqb}
 use lib.ListN.{length, getD}
 use Rattle.le.proofs.TestLaws.{and-left, and-right, Tested, passes, fails, tested}
@@ -17,6 +17,7 @@ use Rattle.weave.specs.declared.Slot.{Slot}
 use Rattle.weave.specs.Codes.{isFine, isBudget, need}
 use Rattle.weave.specs.Sums.{added}
 use Rattle.weave.specs.Table.{freeSlot, hasHandle, placeOf}
+use Rattle.weave.specs.Moves.{cursorOf, openedWith, movedTo, closedAt}
 use Rattle.weave.specs.States.{paid, holding, tabled, spoilt}
 use Rattle.weave.specs.Args.{nextArgs, closeHandle}
 use Rattle.weave.specs.Checks.{handleFine, slotFine}
@@ -29,7 +30,7 @@ use Rattle.host.specs.Begin.{beginCheck, beginAnswer}
 use Rattle.host.specs.Stage.{ingressCheck, ingressAnswer, isPanic, panicked, written, writeCheck, writeAnswer}
 use Rattle.host.specs.Reading.{readCheck, readAnswer}
 use Rattle.host.specs.Cursors.{openCheck, openNext, openAnswer, closeCheck, closeNext, closeAnswer}
-use Rattle.host.specs.Paging.{cursorOf, nextList, nextCheck, nextCursor, nextHost, nextAnswer}
+use Rattle.host.specs.Paging.{nextList, nextCheck, nextCursor, nextHost, nextAnswer}
 use Rattle.promises.specs.Box.{World, Op, Begin, Ingress, Write, Read, Open, Next, Close, Return, LookUp, step, isRefused, codeOf, run}
 use Rattle.promises.specs.Refusal.{marked}
 use Rattle.promises.specs.Turn.{InTurn, givenBy, handedOver}
@@ -84,7 +85,7 @@ module _ (w : World) (k : ℕ) (whole out : List (List ℕ)) (f : FollowedIn w k
   begin-never : (args : List ℕ) → isRefused (step w (Begin args) .said) ≡ false → ⊥
   unfolding step beginAnswer beginCheck
   begin-never args e =
-      let c = not-false _ e in
+      let c = settle-ok h (beginCheck l h args) 0 _ e in
       let n = need-test (not (h .weave .running)) NotNow refl (first-left (need (not (h .weave .running)) NotNow) _ (first-right _ _ c)) in
       true≢false (sym (f .runs) ∙ not-true (h .weave .running) n)
 
@@ -132,7 +133,7 @@ module _ (w : World) (k : ℕ) (whole out : List (List ℕ)) (f : FollowedIn w k
   handle-new m at c = added-sum (h .weave .opened) 1 65535 (omega (arith, few-opened m at c))
 
   open-followed : (m : List ℕ) (at : ℕ) → isRefused (step w (Open m at) .said) ≡ false → FollowedIn (step w (Open m at) .world) k whole (out ++ [])
-  unfolding step openAnswer settle refused openNext withWeave paid tabled opening
+  unfolding step openAnswer settle refused openNext openedWith withWeave paid tabled opening
   open-followed m at e =
       let c = settle-ok h (openCheck l h m at) _ _ e in
       rw (c, handle-new m at c, append-nil out)
@@ -143,7 +144,7 @@ module _ (w : World) (k : ℕ) (whole out : List (List ℕ)) (f : FollowedIn w k
       (omega (arith, f .most)))
 
   close-followed : (m : List ℕ) (at : ℕ) → isRefused (step w (Close m at) .said) ≡ false → FollowedIn (step w (Close m at) .world) k whole (out ++ [])
-  unfolding step closeAnswer settle refused closeNext withWeave paid tabled
+  unfolding step closeAnswer settle refused closeNext closedAt withWeave paid tabled
   close-followed m at e = go (tested (eqb (closeHandle m at) k))
     where
       c : isFine (closeCheck l h m at) ≡ true
@@ -163,7 +164,7 @@ module _ (w : World) (k : ℕ) (whole out : List (List ℕ)) (f : FollowedIn w k
           (f .most))
 
   next-followed : (m : List ℕ) (at : ℕ) → isRefused (step w (Next m at) .said) ≡ false → FollowedIn (step w (Next m at) .world) k whole (out ++ givenBy k w (Next m at))
-  unfolding step nextAnswer settle refused nextHost nextCursor withWeave paid tabled cursorOf nextList
+  unfolding step nextAnswer settle refused nextHost movedTo nextCursor withWeave paid tabled cursorOf nextList
   next-followed m at e = go (tested (eqb (nextArgs m at .handle) k))
     where
       c : isFine (nextCheck l h m at) ≡ true

@@ -1,14 +1,11 @@
 -- The checks that speak of the state.
 -- Assumes nothing.
-use mathlib.Core.Bool.{Bool, not, _&&_, _||_, cond}
-use mathlib.Core.List.{List}
+use mathlib.Core.Bool.{Bool, not, _&&_, _||_}
 use Prim.Native.Nat.{ℕ, _+_, _^_}
 use lib.Dec.{leb, ltb, eqb}
-use Rattle.record.specs.declared.EventId.{EventId}
 use Rattle.weave.specs.declared.Code.{Code}
-use Rattle.weave.specs.declared.Code.the-variants.{NotNow, Bad, Budget}
+use Rattle.weave.specs.declared.Code.the-variants.{NotNow, Budget}
 use Rattle.weave.specs.declared.Lengths.{Lengths}
-use Rattle.weave.specs.declared.Slot.{Slot}
 use Rattle.weave.specs.declared.Weave.{Weave}
 use Rattle.weave.specs.Codes.{need, first, spoiledCode}
 use Rattle.weave.specs.Table.{hasHandle, placeOf}

@@ -2,5 +2,6 @@ pub mod Codes
 pub mod Sums
 pub mod Table
 pub mod States
+pub mod Moves
 pub mod Args
 pub mod Checks

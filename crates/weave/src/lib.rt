@@ -2,6 +2,7 @@
 pub mod args;
 pub mod checks;
 pub mod codes;
+pub mod moves;
 pub mod state;
 pub mod sums;
 pub mod table;
