@@ -7,16 +7,10 @@ use native.Mathlib.Nat.{pow-suc, pow-le-pow-right, lt-of-lt-of-le, zero-lt-suc, 
 use native.Mathlib.Omega.{arith}
 use lib.ListN.{length, getD, take, drop, List·getD-append}
 use lib.Seq.{getD-take, getD-drop, getD-append-add}
-use mir.Syntax.{w8}
-use mir.Val.{Fits}
 use lib.Dec.{lit<}
 use Rattle.le.specs.Splice.{splice, part}
 use Rattle.le.proofs.SpliceLaws.{getD-splice-before, getD-splice-in, getD-splice-after, part-none, part-head}
-use Rattle.le.specs.Le.{leAt, leBytes}
-
--- every element is a byte: what `c .shared-slice-known .given` of a `&[u8]` says, in its words
-abbrev pub Bytes : List ℕ → Type 0
-Bytes s = (i : ℕ) → Fits w8 (getD s i 0)
+use Rattle.le.specs.Le.{Bytes, leAt, leBytes}
 
 -- a number of w bytes is below 256 ^ w
 pub leAt-lt : (w : ℕ) (s : List ℕ) (at : ℕ) → Bytes s → leAt w s at < 256 ^ w

@@ -11,11 +11,7 @@ use Rattle.text.specs.Compare.{sameBytes}
 use Rattle.text.specs.Words.{logTopic, panicTopic, coreTopic}
 use Rattle.le.proofs.TestLaws.{and-left, and-right}
 use Rattle.text.proofs.CompareLaws.{same-true, same-refl}
-use Rattle.manifest.specs.Rights.{Right, gives, anyGives, granted}
-
--- the grant that a question asks for
-abbrev pub asked : ℕ → Bool → List ℕ → Right
-asked k out topic = record { holder = k; out = out; topic = topic }
+use Rattle.manifest.specs.Rights.{asked, Right, gives, anyGives, granted}
 
 beq-true : (a b : Bool) → Bool·beq a b ≡ true → a ≡ b
 beq-true true true e = refl

@@ -11,7 +11,7 @@ use lib.Dec.{leb}
 use lib.IntN.{pos}
 use lib.ListN.{length, length-replicate}
 use Rattle.le.specs.Splice.{zeros}
-use Rattle.le.proofs.LeLaws.{Bytes}
+use Rattle.le.specs.Le.{Bytes}
 use Rattle.le.proofs.SpliceLaws.{length-splice}
 use Rattle.text.specs.Compare.{sameBytes}
 use Rattle.text.specs.Decimal.{numberOf, noLeadingZero, numberFrom, digits, valueFrom}

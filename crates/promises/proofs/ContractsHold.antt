@@ -1,7 +1,7 @@
 -- The contracts of the operations themselves, as the check has them of the code (`Learnt`: what a caller learns of the result and of the parameters at
--- exit): two results that meet one are equal, and what meets one is its case of `step`. So the promises are about the code.
+-- exit): what meets one is its case of `step`. So the promises are about the code. (That two results that meet one are equal: Determined.antt.)
 -- Assumes nothing.
-use mathlib.Core.Path.{_≡_, sym, ap, _∙_}
+use mathlib.Core.Path.{_≡_, sym, ap}
 use mathlib.Core.List.{[]}
 use denote.Ref.{now}
 use denote.Triple.Clauses.{AtExit}
@@ -33,10 +33,6 @@ use Rattle.promises.specs.Box.{Begin, Ingress, Write, Read, Open, Next, 
 -- ---- mount
 
 module _ (κs : Lfts 3) (a : Dens κs mount-kinds.ps) where
-  pub mount-once : (r r′ : resT mount-kinds.r κs .Denot) (s s′ : AtExit (endedOf 3 mount-kinds.ps mount-kinds.r) κs) → mount-reads.Learnt κs a r s → mount-reads.Learnt κs a r′ s′
-      → r ≡ r′
-  mount-once r r′ s s′ p q = p ∙ sym q
-
   pub mount-starts : (r : resT mount-kinds.r κs .Denot) (s : AtExit (endedOf 3 mount-kinds.ps mount-kinds.r) κs) → mount-reads.Learnt κs a r s
       → mountedAs (lentAs (now (a .0)) (now (a .1 .0)) (now (a .1 .1 .0))) (a .1 .1 .1 .0)
       ≡ record { host = r .host; lent = lentAs (now (a .0)) (now (a .1 .0)) (now (a .1 .1 .0)) }
@@ -45,10 +41,6 @@ module _ (κs : Lfts 3) (a : Dens κs mount-kinds.ps) where
 -- ---- begin
 
 module _ (κs : Lfts 4) (a : Dens κs begin-kinds.ps) where
-  pub begin-once : (r r′ : resT begin-kinds.r κs .Denot) (s s′ : AtExit (endedOf 4 begin-kinds.ps begin-kinds.r) κs) → begin-reads.Learnt κs a r s → begin-reads.Learnt κs a r′ s′
-      → (r ≡ r′) × (now (s .1 .0) ≡ now (s′ .1 .0))
-  begin-once r r′ s s′ p q = (p .0 ∙ sym (q .0), p .1 ∙ sym (q .1))
-
   pub begin-steps : (r : resT begin-kinds.r κs .Denot) (s : AtExit (endedOf 4 begin-kinds.ps begin-kinds.r) κs) → begin-reads.Learnt κs a r s
       → step (record { host = a .0; lent = lentAs (now (a .1 .0)) (now (a .1 .1 .0)) (now (a .1 .1 .1 .0)) }) (Begin (now (a .1 .1 .1 .1 .0)))
       ≡ record {
@@ -62,10 +54,6 @@ module _ (κs : Lfts 4) (a : Dens κs begin-kinds.ps) where
 -- ---- ingress
 
 module _ (κs : Lfts 5) (a : Dens κs ingress-kinds.ps) where
-  pub ingress-once : (r r′ : resT ingress-kinds.r κs .Denot) (s s′ : AtExit (endedOf 5 ingress-kinds.ps ingress-kinds.r) κs) → ingress-reads.Learnt κs a r s → ingress-reads.Learnt κs a r′ s′
-      → (r ≡ r′) × (now (s .1 .0) ≡ now (s′ .1 .0))
-  ingress-once r r′ s s′ p q = (p .0 ∙ sym (q .0), p .1 ∙ sym (q .1))
-
   pub ingress-steps : (r : resT ingress-kinds.r κs .Denot) (s : AtExit (endedOf 5 ingress-kinds.ps ingress-kinds.r) κs) → ingress-reads.Learnt κs a r s
       → step (record { host = a .0; lent = lentAs (now (a .1 .0)) (now (a .1 .1 .0)) (now (a .1 .1 .1 .0)) }) (Ingress (now (a .1 .1 .1 .1 .0)) (now (a .1 .1 .1 .1 .1 .0)))
       ≡ record {
@@ -79,10 +67,6 @@ module _ (κs : Lfts 5) (a : Dens κs ingress-kinds.ps) where
 -- ---- write
 
 module _ (κs : Lfts 4) (a : Dens κs write-kinds.ps) where
-  pub write-once : (r r′ : resT write-kinds.r κs .Denot) (s s′ : AtExit (endedOf 4 write-kinds.ps write-kinds.r) κs) → write-reads.Learnt κs a r s → write-reads.Learnt κs a r′ s′
-      → (r ≡ r′) × (now (s .1 .1 .0) ≡ now (s′ .1 .1 .0))
-  write-once r r′ s s′ p q = (p .0 ∙ sym (q .0), p .1 ∙ sym (q .1))
-
   pub write-steps : (r : resT write-kinds.r κs .Denot) (s : AtExit (endedOf 4 write-kinds.ps write-kinds.r) κs) → write-reads.Learnt κs a r s
       → step (record { host = a .0; lent = lentAs (now (a .1 .1 .0)) (now (a .1 .1 .1 .0)) (now (a .1 .1 .1 .1 .0)) }) (Write (now (a .1 .0)) (a .1 .1 .1 .1 .1 .0))
       ≡ record {
@@ -96,10 +80,6 @@ module _ (κs : Lfts 4) (a : Dens κs write-kinds.ps) where
 -- ---- read
 
 module _ (κs : Lfts 4) (a : Dens κs read-kinds.ps) where
-  pub read-once : (r r′ : resT read-kinds.r κs .Denot) (s s′ : AtExit (endedOf 4 read-kinds.ps read-kinds.r) κs) → read-reads.Learnt κs a r s → read-reads.Learnt κs a r′ s′
-      → (r ≡ r′) × (now (s .1 .0) ≡ now (s′ .1 .0))
-  read-once r r′ s s′ p q = (p .0 ∙ sym (q .0), p .1 ∙ sym (q .1))
-
   pub read-steps : (r : resT read-kinds.r κs .Denot) (s : AtExit (endedOf 4 read-kinds.ps read-kinds.r) κs) → read-reads.Learnt κs a r s
       → step (record { host = a .0; lent = lentAs (now (a .1 .1 .0)) (now (a .1 .1 .1 .0)) (now (a .1 .1 .1 .1 .0)) }) (Read (now (a .1 .0)) (a .1 .1 .1 .1 .1 .0))
       ≡ record {
@@ -113,10 +93,6 @@ module _ (κs : Lfts 4) (a : Dens κs read-kinds.ps) where
 -- ---- tl_open
 
 module _ (κs : Lfts 4) (a : Dens κs open-kinds.ps) where
-  pub open-once : (r r′ : resT open-kinds.r κs .Denot) (s s′ : AtExit (endedOf 4 open-kinds.ps open-kinds.r) κs) → open-reads.Learnt κs a r s → open-reads.Learnt κs a r′ s′
-      → (r ≡ r′)
-  open-once r r′ s s′ p q = p ∙ sym q
-
   pub open-steps : (r : resT open-kinds.r κs .Denot) (s : AtExit (endedOf 4 open-kinds.ps open-kinds.r) κs) → open-reads.Learnt κs a r s
       → step (record { host = a .0; lent = lentAs (now (a .1 .1 .0)) (now (a .1 .1 .1 .0)) (now (a .1 .1 .1 .1 .0)) }) (Open (now (a .1 .0)) (a .1 .1 .1 .1 .1 .0))
       ≡ record {
@@ -130,10 +106,6 @@ module _ (κs : Lfts 4) (a : Dens κs open-kinds.ps) where
 -- ---- tl_next
 
 module _ (κs : Lfts 4) (a : Dens κs next-kinds.ps) where
-  pub next-once : (r r′ : resT next-kinds.r κs .Denot) (s s′ : AtExit (endedOf 4 next-kinds.ps next-kinds.r) κs) → next-reads.Learnt κs a r s → next-reads.Learnt κs a r′ s′
-      → (r ≡ r′) × (now (s .1 .0) ≡ now (s′ .1 .0))
-  next-once r r′ s s′ p q = (p .0 ∙ sym (q .0), p .1 ∙ sym (q .1))
-
   pub next-steps : (r : resT next-kinds.r κs .Denot) (s : AtExit (endedOf 4 next-kinds.ps next-kinds.r) κs) → next-reads.Learnt κs a r s
       → step (record { host = a .0; lent = lentAs (now (a .1 .1 .0)) (now (a .1 .1 .1 .0)) (now (a .1 .1 .1 .1 .0)) }) (Next (now (a .1 .0)) (a .1 .1 .1 .1 .1 .0))
       ≡ record {
@@ -147,10 +119,6 @@ module _ (κs : Lfts 4) (a : Dens κs next-kinds.ps) where
 -- ---- tl_close
 
 module _ (κs : Lfts 4) (a : Dens κs close-kinds.ps) where
-  pub close-once : (r r′ : resT close-kinds.r κs .Denot) (s s′ : AtExit (endedOf 4 close-kinds.ps close-kinds.r) κs) → close-reads.Learnt κs a r s → close-reads.Learnt κs a r′ s′
-      → (r ≡ r′)
-  close-once r r′ s s′ p q = p ∙ sym q
-
   pub close-steps : (r : resT close-kinds.r κs .Denot) (s : AtExit (endedOf 4 close-kinds.ps close-kinds.r) κs) → close-reads.Learnt κs a r s
       → step (record { host = a .0; lent = lentAs (now (a .1 .1 .0)) (now (a .1 .1 .1 .0)) (now (a .1 .1 .1 .1 .0)) }) (Close (now (a .1 .0)) (a .1 .1 .1 .1 .1 .0))
       ≡ record {
@@ -164,10 +132,6 @@ module _ (κs : Lfts 4) (a : Dens κs close-kinds.ps) where
 -- ---- module return
 
 module _ (κs : Lfts 3) (a : Dens κs return-kinds.ps) where
-  pub return-once : (r r′ : resT return-kinds.r κs .Denot) (s s′ : AtExit (endedOf 3 return-kinds.ps return-kinds.r) κs) → return-reads.Learnt κs a r s → return-reads.Learnt κs a r′ s′
-      → (r ≡ r′) × ((now (s .1 .1 .0) ≡ now (s′ .1 .1 .0)) × (now (s .1 .0) ≡ now (s′ .1 .0)))
-  return-once r r′ s s′ p q = (p .0 ∙ sym (q .0), (p .1 .0 ∙ sym (q .1 .0), p .1 .1 ∙ sym (q .1 .1)))
-
   pub return-steps : (r : resT return-kinds.r κs .Denot) (s : AtExit (endedOf 3 return-kinds.ps return-kinds.r) κs) → return-reads.Learnt κs a r s
       → step (record { host = a .0; lent = lentAs (now (a .1 .0)) (now (a .1 .1 .0)) (now (a .1 .1 .1 .0)) }) (Return (a .1 .1 .1 .1 .0))
       ≡ record {
@@ -181,10 +145,6 @@ module _ (κs : Lfts 3) (a : Dens κs return-kinds.ps) where
 -- ---- look-up: of the part that it shows, the bytes
 
 module _ (κs : Lfts 2) (a : Dens κs look-kinds.ps) where
-  pub look-up-once : (r r′ : resT look-kinds.r κs .Denot) (s s′ : AtExit (endedOf 2 look-kinds.ps look-kinds.r) κs) → look-reads.Learnt κs a r s → look-reads.Learnt κs a r′ s′
-      → now r ≡ now r′
-  look-up-once r r′ s s′ p q = p ∙ sym q
-
   pub look-up-steps : (r : resT look-kinds.r κs .Denot) (s : AtExit (endedOf 2 look-kinds.ps look-kinds.r) κs) → look-reads.Learnt κs a r s
       → step (record { host = a .0; lent = lentAs (now (a .1 .0)) (now (a .1 .1 .0)) (now (a .1 .1 .1 .0)) }) (LookUp (a .1 .1 .1 .1 .0 .0)) .said ≡ Part (now r)
   unfolding step

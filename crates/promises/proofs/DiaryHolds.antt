@@ -12,7 +12,7 @@ use lib.IntN.{ℤ}
 use lib.ListN.{length, take, length-replicate}
 use lib.Seq.{length-take-le}
 use Rattle.le.specs.Splice.{part, splice, zeros}
-use Rattle.le.proofs.LeLaws.{Bytes}
+use Rattle.le.specs.Le.{Bytes}
 use Rattle.le.proofs.TestLaws.{and-left, and-right}
 use Rattle.le.proofs.SpliceLaws.{length-splice, splice-nil}
 use Rattle.record.specs.Good.{goodRecord}

@@ -13,6 +13,7 @@ pub mod ShownLaws
 pub mod ReadBackHolds
 pub mod CardHolds
 pub mod ContractsHold
+pub mod Determined
 pub mod ListHolds
 pub mod CommitRuns
 pub mod Promises

@@ -1,14 +1,14 @@
 -- The list of a cursor, in 01's words: what is in it, what is not, and how long it is.
 -- Assumes nothing.
-use mathlib.Core.Path.{_≡_, refl, sym, _∙_}
-use mathlib.Core.Bool.{Bool, true, _&&_}
+use mathlib.Core.Path.{_≡_}
+use mathlib.Core.Bool.{Bool, true}
 use mathlib.Core.List.{List, [], _∷_, List·Memᴰ}
-use Prim.Native.Nat.{ℕ, _≤_, _<_}
+use Prim.Native.Nat.{ℕ, _≤_}
 use native.Mathlib.Omega.{arith}
 use native.Mathlib.Nat.{min-le-left}
 use borrow.Author.Tests.{leb-true, ltb-true, le-leb, lt-ltb}
-use lib.Dec.{leb, ltb}
-use lib.ListN.{length, take, length-take}
+use lib.Dec.{leb}
+use lib.ListN.{length, length-take}
 use Rattle.le.proofs.TestLaws.{and-left, and-right, and-both}
 use Rattle.text.specs.Compare.{prefixOf}
 use Rattle.record.specs.Record.{idOf, topicOf}

@@ -9,7 +9,7 @@ use Prim.Native.Nat.{ℕ, _+_, _^_, _≤_, _<_}
 use lib.IntN.{ℤ, pos}
 use lib.ListN.{length, take, getD}
 use Rattle.le.specs.Splice.{splice, zeros}
-use Rattle.le.proofs.LeLaws.{Bytes}
+use Rattle.le.specs.Le.{Bytes}
 use Rattle.manifest.specs.Saying.{mayRead}
 use Rattle.record.specs.Written.{Written}
 use Rattle.card.specs.Pick.{All, Sorted, only}

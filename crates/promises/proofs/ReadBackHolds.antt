@@ -9,7 +9,7 @@ use borrow.Author.Tests.{lt-ltb, le-ltb}
 use lib.Dec.{leb}
 use lib.ListN.{length, take, getD}
 use Rattle.le.specs.Splice.{splice}
-use Rattle.le.proofs.LeLaws.{Bytes}
+use Rattle.le.specs.Le.{Bytes}
 use Rattle.manifest.specs.Saying.{mayRead}
 use Rattle.record.specs.Shown.{Framed}
 use Rattle.record.specs.Written.{Written}

@@ -9,7 +9,7 @@ use borrow.Author.Tests.{leb-true, le-leb, ne-eqb}
 use lib.Dec.{leb, eqb}
 use lib.ListN.{length}
 use Rattle.le.specs.Splice.{part}
-use Rattle.le.proofs.LeLaws.{Bytes}
+use Rattle.le.specs.Le.{Bytes}
 use Rattle.le.proofs.TestLaws.{and-left, and-right, and-both}
 use Rattle.text.specs.Topic.{cardTopic}
 use Rattle.text.specs.Span.{inside}

@@ -10,7 +10,7 @@ use lib.Dec.{leb, eqb, lit<}
 use lib.ListN.{length}
 use Rattle.le.specs.Splice.{part, allZero}
 use Rattle.le.proofs.SpliceLaws.{part-none, part-add, part-whole, part-behind}
-use Rattle.le.proofs.LeLaws.{Bytes}
+use Rattle.le.specs.Le.{Bytes}
 use Rattle.le.proofs.TestLaws.{and-left, and-right}
 use Rattle.text.specs.Compare.{sameBytes}
 use Rattle.text.proofs.CompareLaws.{same-true, same-refl}

@@ -8,10 +8,10 @@ use native.Mathlib.Omega.{arith}
 use borrow.Author.Tests.{ne-eqb}
 use lib.ListN.{length, take, drop}
 use lib.Seq.{drop-drop}
-use Rattle.le.specs.Le.{leAt, leBytes}
+use Rattle.le.specs.Le.{Bytes, leAt, leBytes}
 use Rattle.le.specs.Splice.{splice, part}
 use Rattle.le.proofs.SpliceLaws.{length-splice, part-within}
-use Rattle.le.proofs.LeLaws.{Bytes, length-leBytes, leAt-splice-before, leAt-splice-after, leAt-put}
+use Rattle.le.proofs.LeLaws.{length-leBytes, leAt-splice-before, leAt-splice-after, leAt-put}
 use Rattle.text.specs.Span.{inside}
 use Rattle.value.specs.declared.cell.Cell.{Cell}
 use Rattle.value.specs.declared.Value.{Value}
@@ -20,7 +20,7 @@ use Rattle.value.specs.Cells.{cellAt}
 use Rattle.value.specs.Scalars.{kindOf}
 use Rattle.value.specs.Values.{decoded, contentOf, contentLen, faultOf, valueFault}
 use Rattle.value.specs.Forms.{cellOf, formOf, payload, goodStored}
-use Rattle.value.specs.Shown.{pointed, shownValue}
+use Rattle.value.specs.Shown.{Handed, pointed, shownValue}
 use Rattle.value.proofs.CellLaws.{of, read-fits, cell-there}
 use Rattle.value.proofs.DecodeLaws.{Read, plain, text, array, wrong, reads}
 use Rattle.value.proofs.ScalarLaws.{kind-lt}
@@ -62,10 +62,6 @@ module _ (b : List ℕ) (a : ℕ) (l : 32 ≤ length b) (w : a + 32 < 2 ^ 64) wh
   shown-cell v wrong e = ap (λ (x : List ℕ). cellAt x 0) (shown-plain a 0 b (ap pointed (kind-of b _ e))) ∙ e
 
 -- ---- handed
-
-pub record Handed (m b : List ℕ) (a : ℕ) : Type 0 where
-  pub fine : valueFault m a ≡ Fine
-  pub same : payload m a ≡ b
 
 seen : (m b : List ℕ) (a : ℕ) → inside a 32 (length m) ≡ true → faultOf m (decoded (cellAt m a)) ≡ Fine → formOf m (cellAt m a) ≡ b → Handed m b a
 unfolding valueFault payload
