@@ -1,0 +1,5 @@
+pub mod SayLaws
+pub mod EventLaws
+pub mod LayLaws
+pub mod FormLaws
+pub mod GatherLaws

@@ -1,0 +1,63 @@
+// The arguments of a call, laid into memory.
+ghost use mathlib.Core.Path.{_≡_};
+ghost use mathlib.Core.List.{[], _∷_};
+ghost use Prim.Native.Nat.{_+_, _≤_};
+ghost use lib.ListN.{length};
+ghost use Rattle.le.specs.Splice.{splice};
+ghost use Rattle.script.specs.Laying.{words, beginLaid, writeLaid, openLaid, nextLaid};
+use crate::Buffer;
+use crate::forms::Window;
+
+// All of src, laid over dst from `at` on, as much of it as there is room for.
+pub fn lay(src: &[u8], dst: &mut [u8], at: usize)
+    ensures { λ _. ⌜ now (dst .exit) ≡ splice (now (dst .entry)) at (now (src .entry)) ⌝ }
+{
+    if dst.len() <= at {
+        return;
+    }
+    let room = dst.len() - at;
+    le::copy_at(le::front(src, room), dst, at);
+}
+
+fn put_three(m: &mut [u8], at: usize, a: u64, b: u64, c: u64)
+    requires { ⌜ at + 24 ≤ length (now m) ⌝ }
+    ensures { λ _. ⌜ now (m .exit) ≡ splice (now (m .entry)) at (words (a ∷ b ∷ c ∷ [])) ⌝ }
+{
+    le::put_u64(m, at, a);
+    le::put_u64(m, at + 8, b);
+    le::put_u64(m, at + 16, c);
+}
+
+pub fn begin_args(units: u64, time: u64) -> [u8; 128]
+    ensures { λ r. ⌜ r ≡ beginLaid units time ⌝ }
+{
+    let mut args = [0u8; 128];
+    le::put_u64(&mut args, 24, units);
+    le::put_u64(&mut args, 48, time);
+    args
+}
+
+pub fn lay_write(memory: &mut Buffer, topic: &[u8], payload: &[u8])
+    requires { ⌜ length (now topic) ≤ 65535 ⌝ }
+    ensures { λ _. ⌜ now (memory .exit) ≡ writeLaid (now (memory .entry)) (now (topic .entry)) (now (payload .entry)) ⌝ }
+{
+    let behind = 56 + topic.len();
+    put_three(memory, 8, 56, topic.len() as u64, behind as u64);
+    put_three(memory, 32, payload.len() as u64, 1, 0);
+    lay(topic, memory, 56);
+    lay(payload, memory, behind);
+}
+
+pub fn lay_open(memory: &mut Buffer, filter: &[u8], w: Window)
+    ensures { λ _. ⌜ now (memory .exit) ≡ openLaid (now (memory .entry)) (now (filter .entry)) w ⌝ }
+{
+    put_three(memory, 8, 56, filter.len() as u64, w.from);
+    put_three(memory, 32, w.to, w.limit, w.desc);
+    lay(filter, memory, 56);
+}
+
+pub fn lay_next(memory: &mut Buffer, handle: u64, cap: u64)
+    ensures { λ _. ⌜ now (memory .exit) ≡ nextLaid (now (memory .entry)) handle cap ⌝ }
+{
+    put_three(memory, 8, handle, 8, cap);
+}

@@ -1,0 +1,15 @@
+-- `session::calls::turn_over` meets its contract. Assumes nothing.
+use Rattle.session.proofs.CallLaws.{return-does}
+use Rattle.script.proofs.FormLaws.{coded}
+use mathlib.Core.Path.{_∙_}
+use borrow.Author.Needs.{needs}
+use Rattle.session.proofs.calls.turn_over.Statement.{statement}
+use Rattle.session.proofs.calls.turn_over.Tie as tie
+
+returns : tie.Need-returns
+returns c = return-does _ _ _ _ _ _ _ _ _ _ (c .before .before .before .module-return .ensures .0 ∙ simp (coded _ _ (c .before .before .before .before .before .before .code-of .ensures), c .before .before .before .before .before .before .before .field .ensures .0)) (c .before .before .before .module-return .ensures .1 .0 ∙ simp (coded _ _ (c .before .before .before .before .before .before .code-of .ensures), c .before .before .before .before .before .before .before .field .ensures .0)) (c .before .before .before .module-return .ensures .1 .1 ∙ simp (coded _ _ (c .before .before .before .before .before .before .code-of .ensures), c .before .before .before .before .before .before .before .field .ensures .0)) (c .say-fate .ensures)
+
+pub turn-over-spec : {M : Type 1} → statement M
+turn-over-spec =
+    tie.close
+    (tie.spec (λ c κs. search needs) (λ c κs. search needs) (λ c κs. search needs) (λ c κs. search needs) returns)

@@ -1,0 +1,120 @@
+// Up to `go`: the manifest, and the mount.
+ghost use mathlib.Core.Path.{_≡_};
+ghost use Rattle.script.specs.Saying.{Put, saidMount};
+ghost use Rattle.session.specs.Sessions.{Answers, buffersOf, became, mountAnswer, lentOf, listed, refusedMount, listing};
+ghost use Rattle.session.specs.declared.Phase.the-variants.{Over};
+ghost use Rattle.host.specs.Mount.{mounted};
+use crate::Phase;
+use crate::Said;
+use crate::Session;
+use host::Host;
+use script::Buffer;
+use script::forms::Line;
+use script::say::say_answer;
+use text::compare::same;
+use weave::Code;
+use weave::sums::within;
+
+impl Session {
+    fn refused(self, code: Code, out: &mut Buffer) -> Said
+        ensures { λ r. ⌜ r .next ≡ became self Over (self .size) (self .host) ⌝ }
+        ensures { λ r. ⌜ Put (now (out .entry)) (now (out .exit)) 0 (saidMount code) (r .wrote) ⌝ }
+    {
+        let host = self.host;
+        let wrote = say_answer(out, b"mount", code, 0);
+        Said {
+            wrote,
+            next: self.became(Phase::Over, self.size, host),
+        }
+    }
+
+    fn mount(
+        self,
+        memory: &mut Buffer,
+        staging: &mut Buffer,
+        card: &mut Buffer,
+        text: &mut Buffer,
+        out: &mut Buffer,
+    ) -> Said
+        ensures { λ r. ⌜ Answers (mountAnswer self (buffersOf (now (memory .entry)) (now (staging .entry)) (now (card .entry)) (now (text .entry))) (mounted (lentOf self (buffersOf (now (memory .entry)) (now (staging .entry)) (now (card .entry)) (now (text .entry)))) 0)) (r .next) (buffersOf (now (memory .exit)) (now (staging .exit)) (now (card .exit)) (now (text .exit))) (now (out .entry)) (now (out .exit)) (r .wrote) ⌝ }
+    {
+        let m = Host::mount(staging, card, le::front(text, self.size), 0);
+        let code = m.code;
+        if code.fine() {
+            let host = m.host;
+            return Said {
+                wrote: 0,
+                next: self.became(Phase::Playing, self.size, host),
+            };
+        }
+        self.refused(code, out)
+    }
+
+    // One more line of the manifest.
+    fn listed(
+        self,
+        line: &[u8],
+        memory: &mut Buffer,
+        staging: &mut Buffer,
+        card: &mut Buffer,
+        text: &mut Buffer,
+        out: &mut Buffer,
+    ) -> Said
+        ensures { λ r. ⌜ Answers (listed self (buffersOf (now (memory .entry)) (now (staging .entry)) (now (card .entry)) (now (text .entry))) (now (line .entry))) (r .next) (buffersOf (now (memory .exit)) (now (staging .exit)) (now (card .exit)) (now (text .exit))) (now (out .entry)) (now (out .exit)) (r .wrote) ⌝ }
+    {
+        let host = self.host;
+        let size = self.size;
+        let n = line.len();
+        if within(size as u64, n as u64, Line::LONGEST as u64) {
+            le::copy_at(line, text, size);
+            text[size + n] = b'\n';
+            return Said {
+                wrote: 0,
+                next: self.became(Phase::Listing, size + n + 1, host),
+            };
+        }
+        Said {
+            wrote: 0,
+            next: self.became(Phase::Overfull, size, host),
+        }
+    }
+
+    pub(crate) fn listing(
+        self,
+        line: &[u8],
+        memory: &mut Buffer,
+        staging: &mut Buffer,
+        card: &mut Buffer,
+        text: &mut Buffer,
+        out: &mut Buffer,
+    ) -> Said
+        ensures { λ r. ⌜ Answers (listing self (buffersOf (now (memory .entry)) (now (staging .entry)) (now (card .entry)) (now (text .entry))) (now (line .entry))) (r .next) (buffersOf (now (memory .exit)) (now (staging .exit)) (now (card .exit)) (now (text .exit))) (now (out .entry)) (now (out .exit)) (r .wrote) ⌝ }
+    {
+        if same(line, b"go") {
+            return self.mount(memory, staging, card, text, out);
+        }
+        self.listed(line, memory, staging, card, text, out)
+    }
+
+    // A manifest that is too long.
+    pub(crate) fn overfull(
+        self,
+        line: &[u8],
+        memory: &mut Buffer,
+        staging: &mut Buffer,
+        card: &mut Buffer,
+        text: &mut Buffer,
+        out: &mut Buffer,
+    ) -> Said
+        ensures { λ r. ⌜ Answers (refusedMount self (buffersOf (now (memory .entry)) (now (staging .entry)) (now (card .entry)) (now (text .entry))) (now (line .entry))) (r .next) (buffersOf (now (memory .exit)) (now (staging .exit)) (now (card .exit)) (now (text .exit))) (now (out .entry)) (now (out .exit)) (r .wrote) ⌝ }
+    {
+        if same(line, b"go") {
+            return self.refused(Code::Bad, out);
+        }
+        let host = self.host;
+        Said {
+            wrote: 0,
+            next: self.became(Phase::Overfull, self.size, host),
+        }
+    }
+}
