@@ -17,3 +17,5 @@ pub mod Determined
 pub mod ListHolds
 pub mod CommitRuns
 pub mod Promises
+pub mod AcceptedHolds
+pub mod AskedHolds

@@ -66,7 +66,7 @@ fateIn (Part bytes) = Running
 
 -- ---- what the tests mean
 
-unspoilt : (s : Spoiled) → isFine (reasonFor s) ≡ true → s ≡ Not
+pub unspoilt : (s : Spoiled) → isFine (reasonFor s) ≡ true → s ≡ Not
 unspoilt Not e = refl
 unspoilt Overspent e = absurd (true≢false (sym e))
 unspoilt Panicked e = absurd (true≢false (sym e))

@@ -1,12 +1,12 @@
 -- THE PROMISES, each in one place and in the user's order. What they speak of is in specs/: Box, Refusal, Outcome, Diary, ReadBack, Turn. That they are about
 -- the code is ContractsHold.antt; that they do not hold because nothing happens is the last part.
 -- Assumes nothing.
-use mathlib.Core.Path.{_≡_}
+use mathlib.Core.Path.{_≡_, ap}
 use mathlib.Core.Bool.{Bool, true, false}
-use mathlib.Core.List.{List, [], _∷_, List·Memᴰ}
+use mathlib.Core.List.{List, [], _∷_, map, List·Memᴰ}
 use mathlib.Core.Logic.{_↔_}
 use Prim.Native.Nat.{ℕ, _+_, _^_, _≤_, _<_}
-use lib.IntN.{ℤ, pos}
+use lib.IntN.{ℤ, pos, negsuc}
 use lib.ListN.{length, take, getD}
 use Rattle.le.specs.Splice.{splice, zeros}
 use Rattle.le.specs.Le.{Bytes}
@@ -19,8 +19,8 @@ use Rattle.card.specs.declared.Cursor.{Cursor}
 use Rattle.card.proofs.RecordsLaws.{records-rise}
 use Rattle.card.proofs.ListingLaws.{listed-order}
 use Rattle.weave.specs.declared.Code.{Code}
-use Rattle.weave.specs.declared.Code.the-variants.{Fine}
-use Rattle.weave.specs.Codes.{isFine}
+use Rattle.weave.specs.declared.Code.the-variants.{Fine, Denied, NotNow, Unsound, NoRoom, Bad, Budget, BadValue}
+use Rattle.weave.specs.Codes.{isFine, number}
 use Rattle.weave.specs.States.{freshWeave}
 use Rattle.weave.specs.Args.{writeArgs, readArgs, openArgs, nextArgs}
 use Rattle.takes.specs.Opening.{opening}
@@ -31,14 +31,17 @@ use Rattle.host.specs.Stage.{headerFor, isPanic, writtenTopic}
 use Rattle.host.specs.Mount.{mounted}
 use Rattle.host.specs.Paging.{nextPart, nextAnswer, nextCheck}
 use Rattle.host.specs.Reading.{readAnswer, readCheck}
-use Rattle.promises.specs.Box.{World, Op, Begin, Ingress, Write, Read, Open, Next, Return, LookUp, Answered, Ended, Part, step, isRefused, memoryOf, mountedAs, run}
+use Rattle.promises.specs.Box.{World, Op, Begin, Ingress, Write, Read, Open, Next, Close, Return, LookUp, Answered, Ended, Part, step, isRefused, codeOf, saidNumber, memoryOf, mountedAs, run}
 use Rattle.promises.specs.Refusal.{Unchanged, OnlyThere}
-use Rattle.promises.specs.Outcome.{Conditions, SameCard, saysCommitted, NoneCommitted, Appended, butFaulted}
+use Rattle.promises.specs.Accepted.{BeginMay, IngressMay, WriteMay, ReadMay, OpenMay, NextMay, CloseMay}
+use Rattle.promises.specs.Outcome.{Conditions, SameCard, saysCommitted, NoneCommitted, Appended, butFaulted, PanicLeft}
 use Rattle.promises.specs.Diary.{Diary, answerOf, ingressRecord, writtenRecord, firstPage, diary, Agrees}
 use Rattle.promises.specs.ReadBack.{HasPage}
-use Rattle.promises.specs.Turn.{InTurn, handedOver, listLeft, FirstPart, Nexts, Allowed}
+use Rattle.promises.specs.Turn.{InTurn, handedOver, listLeft, FirstPart, Nexts, Allowed, AskedBy}
 use Rattle.promises.proofs.RefusalHolds.{refusal, next-there, read-there}
 use Rattle.promises.proofs.AcceptedLaws.{settle-ok}
+use Rattle.promises.proofs.AcceptedHolds.{begin-exactly, ingress-exactly, write-exactly, read-exactly, open-exactly, next-exactly, close-exactly}
+use Rattle.promises.proofs.AskedHolds.{asked-by, panic-left, codes-are, refusal-number}
 use Rattle.promises.proofs.OutcomeHolds.{committed-exactly}
 use Rattle.promises.proofs.CardHolds.{only-commit, commit-appends, discard-restores}
 use Rattle.promises.proofs.DiaryHolds.{life-agrees}
@@ -65,7 +68,42 @@ pub read-changes-its-bytes-alone : (w : World) (m : List ℕ) (at : ℕ) → isR
 unfolding step readAnswer
 read-changes-its-bytes-alone w m at e = read-there (w .lent) (w .host) m at (settle-ok (w .host) (readCheck (w .lent) (w .host) m at) _ _ e)
 
+-- "refused with document 01's number"
+pub a-refusal-says-its-number : (w : World) (o : Op) → isRefused (step w o .said) ≡ true → saidNumber (step w o .said) ≡ number (codeOf (step w o .said))
+a-refusal-says-its-number w o = refusal-number (step w o .said)
+
+pub the-numbers : map number (Denied ∷ NotNow ∷ Unsound ∷ NoRoom ∷ Bad ∷ Budget ∷ BadValue ∷ [])
+    ≡ negsuc 0 ∷ negsuc 1 ∷ negsuc 2 ∷ negsuc 3 ∷ negsuc 4 ∷ negsuc 5 ∷ negsuc 6 ∷ []
+the-numbers = codes-are
+
 -- ==== 2. "Records, checks, grants, charges and outcomes are document 01's."
+
+-- "No code is given in any other case": each call is accepted exactly when all holds that it asks
+pub begin-is-accepted-exactly-when : (w : World) (args : List ℕ) → (isRefused (step w (Begin args) .said) ≡ false) ↔ BeginMay (w .lent) (w .host) args
+begin-is-accepted-exactly-when = begin-exactly
+
+pub ingress-is-accepted-exactly-when : (w : World) (topic payload : List ℕ)
+    → (isRefused (step w (Ingress topic payload) .said) ≡ false) ↔ IngressMay (w .lent) (w .host) topic payload
+ingress-is-accepted-exactly-when = ingress-exactly
+
+pub write-is-accepted-exactly-when : (w : World) (m : List ℕ) (at : ℕ) → (isRefused (step w (Write m at) .said) ≡ false) ↔ WriteMay (w .lent) (w .host) m at
+write-is-accepted-exactly-when = write-exactly
+
+pub read-is-accepted-exactly-when : (w : World) (m : List ℕ) (at : ℕ) → (isRefused (step w (Read m at) .said) ≡ false) ↔ ReadMay (w .lent) (w .host) m at
+read-is-accepted-exactly-when = read-exactly
+
+pub open-is-accepted-exactly-when : (w : World) (m : List ℕ) (at : ℕ) → (isRefused (step w (Open m at) .said) ≡ false) ↔ OpenMay (w .lent) (w .host) m at
+open-is-accepted-exactly-when = open-exactly
+
+pub next-is-accepted-exactly-when : (w : World) (m : List ℕ) (at : ℕ) → (isRefused (step w (Next m at) .said) ≡ false) ↔ NextMay (w .lent) (w .host) m at
+next-is-accepted-exactly-when = next-exactly
+
+pub close-is-accepted-exactly-when : (w : World) (m : List ℕ) (at : ℕ) → (isRefused (step w (Close m at) .said) ≡ false) ↔ CloseMay (w .lent) (w .host) m at
+close-is-accepted-exactly-when = close-exactly
+
+-- a write to the panic topic
+pub a-panic-spoils : (w : World) (m : List ℕ) (at : ℕ) → isRefused (step w (Write m at) .said) ≡ false → isPanic m at ≡ true → PanicLeft w (step w (Write m at))
+a-panic-spoils = panic-left
 
 -- "An outcome says committed exactly when 01's conditions hold", with the counts of what is staged
 pub committed-exactly-when : (w : World) (code : ℤ) (events bytes : ℕ)
@@ -83,10 +121,12 @@ pub only-a-commit-changes-the-card : (w : World) (o : Op) → saysCommitted (ste
 only-a-commit-changes-the-card = only-commit
 
 -- "Discard leaves the card, and the state as before begin (but for faulted)": from a box with no weave, through any calls
-pub a-discard-restores : (w : World) → w .host .weave ≡ freshWeave → (os : List Op) → NoneCommitted w os → (code : ℤ) (c : Code)
+pub a-discard-restores :
+    (w : World) → w .host .weave ≡ freshWeave → (os : List Op) → NoneCommitted w os → (code : ℤ) (c : Code)
     → step (run w os) (Return code) .said ≡ Ended (Discarded c)
     → (step (run w os) (Return code) .world .lent .card ≡ w .lent .card)
-    × (step (run w os) (Return code) .world .host ≡ butFaulted (w .host) (run w os .host .faulted))
+      × ((step (run w os) (Return code) .world .host ≡ butFaulted (w .host) (run w os .host .faulted))
+      × (step (run w os) (Return code) .world .lent .staging ≡ zeros (length (run w os .lent .staging))))
 a-discard-restores = discard-restores
 
 -- The life of a box: mounted, and asked whatever may be asked, it agrees with the diary. So the card's records are those at mount, then those staged in each
@@ -140,6 +180,10 @@ module _ (l : Lent) (used : ℕ) (before : List Op) (m : List ℕ) (at k : ℕ) 
   -- "one list (every committed event that filter, window and grants allow, .. cut to the limit)"
   pub the-list : listLeft w₁ k ≡ listOf (mayRead (w .lent .text) (w .host .weave .turn)) cursor′ (records (take (w .host .used) (w .lent .card)) 1)
   the-list = open-lists w (life-tidy l used before) m at k o
+
+  -- .. and that filter, window, limit and direction are the ones of the open's bytes
+  pub the-list-is-asked-for : AskedBy m at cursor′
+  the-list-is-asked-for = asked-by w m at k (ap isRefused o)
 
   -- "whatever else it calls, what one cursor hands over is a first part of one list"
   pub a-first-part : (os : List Op) → All InTurn os → FirstPart (handedOver k w₁ os) (listLeft w₁ k)

@@ -1,5 +1,6 @@
 pub mod Box
 pub mod Refusal
+pub mod Accepted
 pub mod Outcome
 pub mod Diary
 pub mod Turn

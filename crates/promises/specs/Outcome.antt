@@ -11,12 +11,13 @@ use Rattle.le.specs.Splice.{part, zeros}
 use Rattle.manifest.specs.Saying.{modulesSaid, manifestOf}
 use Rattle.card.specs.Walk.{chainTo}
 use Rattle.weave.specs.declared.Spoiled.the-variants.{Not}
-use Rattle.weave.specs.Codes.{isFine}
+use Rattle.weave.specs.declared.Code.the-variants.{Denied}
+use Rattle.weave.specs.Codes.{isFine, spoiledCode}
 use Rattle.weave.specs.States.{freshWeave}
 use Rattle.host.specs.declared.Host.{Host}
 use Rattle.host.specs.declared.Fate.the-variants.{Refused, Discarded, Running, Committed}
 use Rattle.host.specs.Hosts.{Lent, lentCheck}
-use Rattle.promises.specs.Box.{World, Op, Said, Answered, Ended, Part, step}
+use Rattle.promises.specs.Box.{World, Op, Said, Answered, Ended, Part, Step, step, saidNumber}
 use Rattle.promises.specs.Refusal.{OnlyThere}
 
 -- 01's conditions, in the order in which it gives them
@@ -69,3 +70,13 @@ pub record Appended (was is : World) : Type 0 where
 -- "Discard leaves the card, and the state as before begin (but for faulted)": the state as it was, with the mark `faulted` as it is
 abbrev pub butFaulted : Host → Bool → Host
 butFaulted h f = record { lengths = h .lengths; used = h .used; next = h .next; faulted = f; weave = h .weave }
+
+-- a write to `filament/core/panic`: "answers 0, stages and charges nothing, spoils the weave (-1) and marks the process faulted"
+pub record PanicLeft (was : World) (s : Step) : Type 0 where
+  pub answer : saidNumber (s .said) ≡ pos 0
+  pub staging : s .world .lent .staging ≡ was .lent .staging
+  pub staged : s .world .host .weave .staged ≡ was .host .weave .staged
+  pub count : s .world .host .weave .count ≡ was .host .weave .count
+  pub units : s .world .host .weave .units ≡ was .host .weave .units
+  pub spoils : spoiledCode (s .world .host .weave .spoiled) ≡ Denied
+  pub faulted : s .world .host .faulted ≡ true

@@ -14,7 +14,7 @@ use Rattle.card.specs.Listing.{filterOf}
 use Rattle.card.specs.declared.Cursor.{Cursor}
 use Rattle.weave.specs.declared.Slot.{Slot}
 use Rattle.weave.specs.Table.{hasHandle}
-use Rattle.weave.specs.Args.{nextArgs}
+use Rattle.weave.specs.Args.{openArgs, nextArgs, bytesAt}
 use Rattle.host.specs.Paging.{nextList, nextPart}
 use Rattle.promises.specs.Box.{World, Op, Begin, Ingress, Write, Read, Open, Next, Close, Return, LookUp, step, isRefused}
 
@@ -92,3 +92,12 @@ pub record Allowed (may : List ℕ → Bool) (c : Cursor) (r : List ℕ) : Type 
   -- "Window: start ≤ id < end"
   pub from : c .from .0 ≤ idOf r
   pub to : idOf r < c .to .0
+
+-- the cursor c is the one that the open at a of memory m asks for
+pub record AskedBy (m : List ℕ) (a : ℕ) (c : Cursor) : Type 0 where
+  pub filter : filterOf c ≡ bytesAt m (openArgs m a .topic)
+  pub from : c .from .0 ≡ openArgs m a .from
+  pub to : c .to .0 ≡ openArgs m a .to
+  pub limit : c .limit ≡ openArgs m a .limit
+  -- "desc 0 lists ids upward, 1 downward"
+  pub desc : c .desc ≡ eqb (openArgs m a .desc) 1
