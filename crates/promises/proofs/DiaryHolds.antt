@@ -317,7 +317,7 @@ agrees-run (o ∷ os) w d b a = agrees-run os (step w o .world) (entered w d o) 
 
 -- ---- mount
 
-mount-used : (l : Lent) (used : ℕ) → isFine (mountCheck l used) ≡ true → used ≤ length (l .card)
+pub mount-used : (l : Lent) (used : ℕ) → isFine (mountCheck l used) ≡ true → used ≤ length (l .card)
 unfolding mountCheck
 mount-used l used e =
     leb-true used (length (l .card)) (and-left (leb used (length (l .card))) _ (and-right (sizesFine (lengthsOf l)) _ (need-test _ Bad refl e)))

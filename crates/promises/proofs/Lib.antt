@@ -19,3 +19,4 @@ pub mod CommitRuns
 pub mod Promises
 pub mod AcceptedHolds
 pub mod AskedHolds
+pub mod LifeHolds

@@ -45,14 +45,14 @@ use Rattle.promises.proofs.TurnHolds.{FollowedIn, handle-there, follow-
 
 -- ---- a page is never empty but at the end
 
-abbrev Long : List ℕ → Type 0
+abbrev pub Long : List ℕ → Type 0
 Long r = 136 ≤ length r
 
 all-at : (P : List ℕ → Type 0) (rs : List (List ℕ)) → ((k : ℕ) → k < length rs → P (getD rs k [])) → All P rs
 all-at P [] f = tt
 all-at P (r ∷ rs) f = (f 0 (omega arith), all-at P rs (λ k h. f (suc k) (omega arith)))
 
-records-long : (s : List ℕ) (id : ℕ) → All Long (records s id)
+pub records-long : (s : List ℕ) (id : ℕ) → All Long (records s id)
 records-long s id = all-at Long (records s id) (λ k h. good-long (getD (records s id) k []) (id + k) (records-good s id k h))
 
 pub left-long : (w : World) (k : ℕ) → All Long (listLeft w k)
