@@ -20,3 +20,4 @@ pub mod Promises
 pub mod AcceptedHolds
 pub mod AskedHolds
 pub mod LifeHolds
+pub mod IdleHolds

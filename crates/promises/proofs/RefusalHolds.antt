@@ -64,12 +64,12 @@ module _ (h : Host) (c : Code) (v : ℕ) (next : Host) where
 
 -- ---- checks that never say -6
 
-need-mild : (t : Bool) (c : Code) → isBudget c ≡ false → isBudget (need t c) ≡ false
+pub need-mild : (t : Bool) (c : Code) → isBudget c ≡ false → isBudget (need t c) ≡ false
 unfolding need
 need-mild true c e = refl
 need-mild false c e = e
 
-first-mild : (c d : Code) → isBudget c ≡ false → isBudget d ≡ false → isBudget (first c d) ≡ false
+pub first-mild : (c d : Code) → isBudget c ≡ false → isBudget d ≡ false → isBudget (first c d) ≡ false
 unfolding first
 first-mild c d e f = go (isFine c)
   where
@@ -77,11 +77,11 @@ first-mild c d e f = go (isFine c)
     go true = f
     go false = e
 
-lent-mild : (l : Lent) (h : Host) → isBudget (lentCheck l h) ≡ false
+pub lent-mild : (l : Lent) (h : Host) → isBudget (lentCheck l h) ≡ false
 unfolding lentCheck
 lent-mild l h = need-mild _ Bad refl
 
-return-mild : (l : Lent) (h : Host) → isBudget (returnCheck l h) ≡ false
+pub return-mild : (l : Lent) (h : Host) → isBudget (returnCheck l h) ≡ false
 unfolding returnCheck
 return-mild l h = first-mild (lentCheck l h) _ (lent-mild l h) (need-mild _ NotNow refl)
 
