@@ -1,35 +1,33 @@
 -- The cursor of an open is the one that its bytes ask for; what a panic leaves; the numbers of what is said.
 -- Assumes nothing.
-use mathlib.Core.Path.{_≡_, refl, sym, ap, _∙_}
-use mathlib.Core.Bool.{Bool, true, false, not, _&&_, cond, true≢false}
+use mathlib.Core.Path.{_≡_, refl, sym}
+use mathlib.Core.Bool.{Bool, true, false, cond, true≢false}
 use mathlib.Core.List.{List, [], _∷_, map}
 use Prim.Native.Nat.{ℕ, _+_, _≤_}
 use native.Mathlib.Omega.{arith}
 use native.Mathlib.Nat.{add-zero}
 use borrow.Author.Tests.{leb-true, not-true}
 use lib.Dec.{leb}
-use lib.IntN.{ℤ, pos, negsuc}
+use lib.IntN.{negsuc}
 use lib.ListN.{length, take, length-replicate}
 use lib.Seq.{take-all}
 use Rattle.le.specs.Splice.{splice, zeros, part}
 use Rattle.le.proofs.SpliceLaws.{length-part, part-of-splice}
 use Rattle.le.proofs.TestLaws.{and-left, and-right}
 use Rattle.text.specs.Span.{inside}
-use Rattle.text.specs.Topic.{goodText, goodFilter}
+use Rattle.text.specs.Topic.{goodText}
 use Rattle.text.proofs.SpanLaws.{inside-end}
 use Rattle.card.specs.Listing.{filterOf}
-use Rattle.weave.specs.declared.Code.{Code}
-use Rattle.weave.specs.declared.Code.the-variants.{Fine, Denied, NotNow, Unsound, NoRoom, Bad, Budget, BadValue}
-use Rattle.weave.specs.declared.Spoiled.the-variants.{Panicked}
+use Rattle.weave.specs.declared.Code.the-variants.{Denied, NotNow, Unsound, NoRoom, Bad, Budget, BadValue}
 use Rattle.weave.specs.Codes.{isFine, number}
 use Rattle.weave.specs.Sums.{added}
 use Rattle.weave.specs.States.{paid, spoilt}
-use Rattle.weave.specs.Args.{openArgs, bytesAt, filterFine, filterBytes}
+use Rattle.weave.specs.Args.{openArgs, filterFine, filterBytes}
 use Rattle.takes.specs.Opening.{opening}
 use Rattle.host.specs.declared.Fate.the-variants.{Refused, Discarded, Running, Committed}
 use Rattle.host.specs.Hosts.{refused, settle}
 use Rattle.host.specs.Stage.{isPanic, panicked, written, writeCheck, writeAnswer, writeStaging}
-use Rattle.promises.specs.Box.{World, Op, Write, Open, Said, Answered, Ended, Part, step, isRefused, codeOf, saidNumber}
+use Rattle.promises.specs.Box.{World, Write, Open, Said, Answered, Ended, Part, step, isRefused, codeOf, saidNumber}
 use Rattle.promises.specs.Outcome.{PanicLeft}
 use Rattle.promises.specs.Turn.{AskedBy}
 use Rattle.promises.proofs.AcceptedLaws.{settle-ok}

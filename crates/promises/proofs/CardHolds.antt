@@ -137,7 +137,7 @@ same-run (o ∷ os) w n = same-trans w (step w o .world) (run (step w o .world) 
 -- what a discard leaves of the box just before it
 discard-left : (w : World) (code : ℤ) (c : Code) → fateOf (w .lent) (w .host) code ≡ Discarded c
     → (step w (Return code) .world .host ≡ withWeave (w .host) freshWeave)
-      × ((step w (Return code) .world .lent .card ≡ w .lent .card) × (step w (Return code) .world .lent .staging ≡ zeros (length (w .lent .staging))))
+    × ((step w (Return code) .world .lent .card ≡ w .lent .card) × (step w (Return code) .world .lent .staging ≡ zeros (length (w .lent .staging))))
 unfolding step returnAnswer returnCard returnStaging finished
 discard-left w code c q = (rw q, (rw q (splice-nil (w .lent .card) (w .host .used)), rw q))
 
@@ -146,8 +146,8 @@ discard-left w code c q = (rw q, (rw q (splice-nil (w .lent .card) (w .host .use
 pub discard-restores : (w : World) → w .host .weave ≡ freshWeave → (os : List Op) → NoneCommitted w os → (code : ℤ) (c : Code)
     → step (run w os) (Return code) .said ≡ Ended (Discarded c)
     → (step (run w os) (Return code) .world .lent .card ≡ w .lent .card)
-      × ((step (run w os) (Return code) .world .host ≡ butFaulted (w .host) (run w os .host .faulted))
-      × (step (run w os) (Return code) .world .lent .staging ≡ zeros (length (run w os .lent .staging))))
+    × ((step (run w os) (Return code) .world .host ≡ butFaulted (w .host) (run w os .host .faulted))
+    × (step (run w os) (Return code) .world .lent .staging ≡ zeros (length (run w os .lent .staging))))
 unfolding step returnAnswer withWeave
 discard-restores w fresh os n code c e =
     let s = same-run os w n in

@@ -28,11 +28,16 @@ use Rattle.host.proofs.Host.mount.Reads as mount-reads
 use Rattle.host.proofs.Host.look_up.Kinds as look-kinds
 use Rattle.host.proofs.Host.look_up.Reads as look-reads
 use Rattle.host.specs.Hosts.{lentAs}
+use Rattle.host.specs.Mount.{mounted}
 use Rattle.promises.specs.Box.{Begin, Ingress, Write, Read, Open, Next, Close, Return, LookUp, Answered, Ended, Part, step, mountedAs}
 
 -- ---- mount
 
 module _ (κs : Lfts 3) (a : Dens κs mount-kinds.ps) where
+  pub mount-says : (r : resT mount-kinds.r κs .Denot) (s : AtExit (endedOf 3 mount-kinds.ps mount-kinds.r) κs) → mount-reads.Learnt κs a r s
+      → mounted (lentAs (now (a .0)) (now (a .1 .0)) (now (a .1 .1 .0))) (a .1 .1 .1 .0) ≡ r
+  mount-says r s p = sym p
+
   pub mount-starts : (r : resT mount-kinds.r κs .Denot) (s : AtExit (endedOf 3 mount-kinds.ps mount-kinds.r) κs) → mount-reads.Learnt κs a r s
       → mountedAs (lentAs (now (a .0)) (now (a .1 .0)) (now (a .1 .1 .0))) (a .1 .1 .1 .0)
       ≡ record { host = r .host; lent = lentAs (now (a .0)) (now (a .1 .0)) (now (a .1 .1 .0)) }

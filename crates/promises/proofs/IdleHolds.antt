@@ -33,7 +33,7 @@ use Rattle.host.specs.Mount.{freshHost, noHost, mountCheck, mountedBy, mounted}
 use Rattle.promises.specs.Box.{World, Op, Begin, Ingress, Write, Read, Open, Next, Close, Return, LookUp, Ended, step, isRefused, codeOf, mountedAs, run}
 use Rattle.promises.specs.Refusal.{marked}
 use Rattle.promises.proofs.RefusalHolds.{refusal, settle-fault, settle-code, need-mild, first-mild, lent-mild, return-mild, fate-refused}
-use Rattle.promises.proofs.AcceptedLaws.{settle-ok, gate-running}
+use Rattle.promises.proofs.AcceptedLaws.{settle-ok}
 use Rattle.promises.proofs.AcceptedHolds.{ingress-exactly, write-exactly, read-exactly, open-exactly, next-exactly, close-exactly}
 
 -- ---- checks in a row

@@ -21,3 +21,4 @@ pub mod AcceptedHolds
 pub mod AskedHolds
 pub mod LifeHolds
 pub mod IdleHolds
+pub mod WeaveHolds

@@ -6,7 +6,7 @@ use mathlib.Core.List.{List, [], _∷_}
 use Prim.Native.Nat.{ℕ, _+_, _^_, _≤_, _<_}
 use native.Mathlib.Omega.{arith}
 use borrow.Author.Tests.{leb-true, le-leb, eq-eqb, ltb-true}
-use lib.Dec.{leb, ltb, eqb}
+use lib.Dec.{leb, ltb}
 use lib.IntN.{ℤ}
 use lib.ListN.{length, take, length-replicate}
 use lib.Seq.{length-take-le}
@@ -46,11 +46,11 @@ use Rattle.host.specs.Paging.{nextCheck, nextHost, nextAnswer}
 use Rattle.host.specs.Fates.{kept, ends}
 use Rattle.host.specs.Ending.{returnCheck, whyNot, lastCheck, fateOf, committed, finished, returnAnswer, returnCard, returnStaging}
 use Rattle.host.specs.Mount.{freshHost, noHost, sizesFine, mountCheck, mountedBy, mounted}
-use Rattle.promises.specs.Box.{World, Op, Begin, Ingress, Write, Read, Open, Next, Close, Return, LookUp, Ended, step, isRefused, codeOf, memoryOf, mountedAs, run}
+use Rattle.promises.specs.Box.{World, Op, Begin, Ingress, Write, Read, Open, Next, Close, Return, LookUp, step, isRefused, codeOf, memoryOf, mountedAs, run}
 use Rattle.promises.specs.Refusal.{marked}
 use Rattle.promises.specs.Diary.{Diary, Agrees, entered, diary, firstPage}
 use Rattle.promises.proofs.RefusalHolds.{refusal}
-use Rattle.promises.proofs.AcceptedLaws.{Lawful, lawful, settle-ok}
+use Rattle.promises.proofs.AcceptedLaws.{settle-ok}
 use Rattle.promises.proofs.OutcomeHolds.{conditions}
 use Rattle.promises.proofs.StagedLaws.{ingress-staged, write-staged}
 use Rattle.promises.proofs.DiaryHolds.{agrees-step, mount-agrees, life-agrees}

@@ -21,7 +21,6 @@ use Rattle.card.proofs.ListingLaws.{listed-order}
 use Rattle.weave.specs.declared.Code.{Code}
 use Rattle.weave.specs.declared.Code.the-variants.{Fine, Denied, NotNow, Unsound, NoRoom, Bad, Budget, BadValue}
 use Rattle.weave.specs.Codes.{isFine, number}
-use Rattle.weave.specs.States.{freshWeave}
 use Rattle.weave.specs.Args.{writeArgs, readArgs, openArgs, nextArgs}
 use Rattle.takes.specs.Opening.{opening}
 use Rattle.takes.specs.Payloads.{payloadBytes}
@@ -34,7 +33,7 @@ use Rattle.host.specs.Reading.{readAnswer, readCheck}
 use Rattle.promises.specs.Box.{World, Op, Begin, Ingress, Write, Read, Open, Next, Close, Return, LookUp, Answered, Ended, Part, step, isRefused, codeOf, saidNumber, memoryOf, mountedAs, run}
 use Rattle.promises.specs.Refusal.{Unchanged, OnlyThere}
 use Rattle.promises.specs.Accepted.{BeginMay, IngressMay, WriteMay, ReadMay, OpenMay, NextMay, CloseMay}
-use Rattle.promises.specs.Outcome.{Conditions, SameCard, saysCommitted, NoneCommitted, Appended, butFaulted, PanicLeft}
+use Rattle.promises.specs.Outcome.{Conditions, SameCard, saysCommitted, NoneCommitted, Appended, butFaulted, PanicLeft, Begun, SameWeave}
 use Rattle.promises.specs.Diary.{Diary, answerOf, ingressRecord, writtenRecord, firstPage, diary, Agrees}
 use Rattle.promises.specs.ReadBack.{HasPage}
 use Rattle.promises.specs.Turn.{InTurn, handedOver, listLeft, FirstPart, Nexts, Allowed, AskedBy}
@@ -46,6 +45,9 @@ use Rattle.promises.proofs.OutcomeHolds.{committed-exactly}
 use Rattle.promises.proofs.CardHolds.{only-commit, commit-appends, discard-restores}
 use Rattle.promises.proofs.DiaryHolds.{life-agrees}
 use Rattle.promises.proofs.ReadBackHolds.{write-reads-back, ingress-reads-back, kept-found, staged-found, page-stands}
+use Rattle.promises.proofs.IdleHolds.{life-idle}
+use Rattle.promises.proofs.LifeHolds.{life-sane}
+use Rattle.promises.proofs.WeaveHolds.{begin-sets, weave-stays}
 use Rattle.promises.proofs.TidyHolds.{life-tidy}
 use Rattle.promises.proofs.PagesHold.{open-lists, first-part, end-exactly, drained}
 use Rattle.promises.proofs.ListHolds.{all-allowed, every-allowed, within-limit}
@@ -120,14 +122,24 @@ committed-means-appended = commit-appends
 pub only-a-commit-changes-the-card : (w : World) (o : Op) → saysCommitted (step w o .said) ≡ false → SameCard w (step w o .world)
 only-a-commit-changes-the-card = only-commit
 
--- "Discard leaves the card, and the state as before begin (but for faulted)": from a box with no weave, through any calls
-pub a-discard-restores :
-    (w : World) → w .host .weave ≡ freshWeave → (os : List Op) → NoneCommitted w os → (code : ℤ) (c : Code)
-    → step (run w os) (Return code) .said ≡ Ended (Discarded c)
-    → (step (run w os) (Return code) .world .lent .card ≡ w .lent .card)
-      × ((step (run w os) (Return code) .world .host ≡ butFaulted (w .host) (run w os .host .faulted))
-      × (step (run w os) (Return code) .world .lent .staging ≡ zeros (length (run w os .lent .staging))))
-a-discard-restores = discard-restores
+-- "Discard leaves the card, and the state as before begin (but for faulted)": from any box that a mount and any calls lead to, with no weave running, through
+-- any calls none of which says committed; "Both leave staging all 0"
+pub a-discard-restores : (l : Lent) (used : ℕ) (before : List Op) → run (mountedAs l used) before .host .weave .running ≡ false
+    → (os : List Op) → NoneCommitted (run (mountedAs l used) before) os → (code : ℤ) (c : Code)
+    → step (run (run (mountedAs l used) before) os) (Return code) .said ≡ Ended (Discarded c)
+    → (step (run (run (mountedAs l used) before) os) (Return code) .world .lent .card ≡ run (mountedAs l used) before .lent .card)
+    × ((step (run (run (mountedAs l used) before) os) (Return code) .world .host
+    ≡ butFaulted (run (mountedAs l used) before .host) (run (run (mountedAs l used) before) os .host .faulted))
+    × (step (run (run (mountedAs l used) before) os) (Return code) .world .lent .staging
+    ≡ zeros (length (run (run (mountedAs l used) before) os .lent .staging))))
+a-discard-restores l used before idle = discard-restores (run (mountedAs l used) before) (life-idle l used before idle)
+
+-- begin sets budget, virtual time and trace from its bytes, and while the weave runs they stay
+pub begin-sets-the-weave : (w : World) (args : List ℕ) → isRefused (step w (Begin args) .said) ≡ false → Begun args w (step w (Begin args) .world)
+begin-sets-the-weave = begin-sets
+
+pub a-weave-keeps-what-begin-set : (w : World) (o : Op) → w .host .weave .running ≡ true → step w o .world .host .weave .running ≡ true → SameWeave w (step w o .world)
+a-weave-keeps-what-begin-set = weave-stays
 
 -- The life of a box: mounted, and asked whatever may be asked, it agrees with the diary. So the card's records are those at mount, then those staged in each
 -- weave whose outcome said committed, in order; a weave's units are the sum of the charges of its accepted module calls; what is staged is what its accepted
@@ -135,6 +147,11 @@ a-discard-restores = discard-restores
 pub the-box-keeps-its-diary : (l : Lent) (used : ℕ) (os : List Op) → All (λ (o : Op). Bytes (memoryOf o)) os → mounted l used .code ≡ Fine
     → Agrees (run (mountedAs l used) os) (diary (mountedAs l used) (firstPage l used) os)
 the-box-keeps-its-diary = life-agrees
+
+-- and check 1 passes after any calls: none of them leaves a box that the next refuses with -5 for its state
+pub check-1-passes-over-a-life : (l : Lent) (used : ℕ) (os : List Op) → All (λ (o : Op). Bytes (memoryOf o)) os → mounted l used .code ≡ Fine
+    → isFine (lentCheck (run (mountedAs l used) os .lent) (run (mountedAs l used) os .host)) ≡ true
+check-1-passes-over-a-life = life-sane
 
 -- "What is written reads back as the same topic and the payload as 01 stores it": what a write stages, and an ingress
 pub a-write-stages-its-record : (w : World) (m : List ℕ) (at : ℕ) → Bytes m → length (w .host .weave .trace) ≡ 32 → w .host .weave .time .0 < 256 ^ 8
@@ -151,13 +168,18 @@ pub an-ingress-stages-its-record : (w : World) (topic payload : List ℕ) → le
 an-ingress-stages-its-record = ingress-reads-back
 
 -- after a commit look-up gives the record, by its number; before it, by the number that it will have
-pub look-up-gives-what-was-kept : (w : World) (d : Diary) → Agrees w d → isFine (lentCheck (w .lent) (w .host)) ≡ true → (i : ℕ) → i < length (d .kept)
-    → step w (LookUp (i + 1)) .said ≡ Part (getD (d .kept) i [])
-look-up-gives-what-was-kept = kept-found
+module _ (l : Lent) (used : ℕ) (os : List Op) (b : All (λ (o : Op). Bytes (memoryOf o)) os) (fine : mounted l used .code ≡ Fine) where
+  abbrev box : World
+  box = run (mountedAs l used) os
 
-pub look-up-gives-what-is-staged : (w : World) (d : Diary) → Agrees w d → isFine (lentCheck (w .lent) (w .host)) ≡ true → (i : ℕ) → i < length (d .staged)
-    → step w (LookUp (w .host .next .0 + i)) .said ≡ Part (getD (d .staged) i [])
-look-up-gives-what-is-staged = staged-found
+  abbrev told : Diary
+  told = diary (mountedAs l used) (firstPage l used) os
+
+  pub look-up-gives-what-was-kept : (i : ℕ) → i < length (told .kept) → step box (LookUp (i + 1)) .said ≡ Part (getD (told .kept) i [])
+  look-up-gives-what-was-kept = kept-found box told (life-agrees l used os b fine) (life-sane l used os b fine)
+
+  pub look-up-gives-what-is-staged : (i : ℕ) → i < length (told .staged) → step box (LookUp (box .host .next .0 + i)) .said ≡ Part (getD (told .staged) i [])
+  look-up-gives-what-is-staged = staged-found box told (life-agrees l used os b fine) (life-sane l used os b fine)
 
 -- "its pointer moved": every record of a page stands in the memory with its topic and its payload as 01 stores it, its pointer where its bytes now lie
 pub a-page-stands-in-memory : (w : World) (m : List ℕ) (at : ℕ) → isRefused (step w (Next m at) .said) ≡ false

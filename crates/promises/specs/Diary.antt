@@ -1,5 +1,5 @@
--- What a careful listener writes down: the events on the card, those staged in the weave that runs, and what its accepted module calls have cost. Every
--- entry goes by what was asked and what the box said. Promise 2 over the life of a box is that the box agrees with it.
+-- What a careful listener writes down: the events on the card, those staged in the weave that runs, and what its accepted module calls have cost. An
+-- entry goes by what was asked and what the box said; a record's time, trace and agent are those of the weave, which begin set and which stay (`SameWeave`). Promise 2 over the life of a box is that the box agrees with it.
 -- Assumes nothing.
 use mathlib.Core.Path.{_≡_}
 use mathlib.Core.Bool.{true, cond}

@@ -4,9 +4,10 @@ use mathlib.Core.Path.{_≡_}
 use mathlib.Core.Bool.{Bool, true, false}
 use mathlib.Core.List.{List, [], _∷_}
 use mathlib.Core.Logic.{_⊎_}
-use Prim.Native.Nat.{_+_, _≤_}
+use Prim.Native.Nat.{ℕ, _+_, _≤_}
 use lib.IntN.{ℤ, pos}
 use lib.ListN.{length, take}
+use Rattle.le.specs.Le.{leAt}
 use Rattle.le.specs.Splice.{part, zeros}
 use Rattle.manifest.specs.Saying.{modulesSaid, manifestOf}
 use Rattle.card.specs.Walk.{chainTo}
@@ -80,3 +81,18 @@ pub record PanicLeft (was : World) (s : Step) : Type 0 where
   pub units : s .world .host .weave .units ≡ was .host .weave .units
   pub spoils : spoiledCode (s .world .host .weave .spoiled) ≡ Denied
   pub faulted : s .world .host .faulted ≡ true
+
+-- begin: "Used are res_max at 24, virt_time at 48, trace at 56. Staging becomes all 0, units 0, module 1 has its turn."
+pub record Begun (args : List ℕ) (was is : World) : Type 0 where
+  pub resmax : is .host .weave .resmax ≡ leAt 8 args 24
+  pub time : is .host .weave .time .0 ≡ leAt 8 args 48
+  pub trace : is .host .weave .trace ≡ part 56 32 args
+  pub units : is .host .weave .units ≡ 0
+  pub turn : is .host .weave .turn ≡ 1
+  pub staging : is .lent .staging ≡ zeros (length (was .lent .staging))
+
+-- one weave: what begin set stays while it runs
+pub record SameWeave (was is : World) : Type 0 where
+  pub resmax : is .host .weave .resmax ≡ was .host .weave .resmax
+  pub time : is .host .weave .time ≡ was .host .weave .time
+  pub trace : is .host .weave .trace ≡ was .host .weave .trace
