@@ -14,7 +14,7 @@ use Rattle.manifest.specs.Saying.{mayRead}
 use Rattle.record.specs.Written.{Written}
 use Rattle.card.specs.Pick.{All, Sorted, only}
 use Rattle.card.specs.Records.{records}
-use Rattle.card.specs.Listing.{listed, turn, listOf, Before}
+use Rattle.card.specs.Listing.{fit, listed, turn, listOf, Before}
 use Rattle.card.specs.declared.Cursor.{Cursor}
 use Rattle.card.proofs.RecordsLaws.{records-rise}
 use Rattle.card.proofs.ListingLaws.{listed-order}
@@ -29,7 +29,7 @@ use Rattle.host.specs.Hosts.{Lent, lentAs, lentCheck}
 use Rattle.host.specs.Stage.{headerFor, isPanic, writtenTopic}
 use Rattle.host.specs.Mount.{mounted}
 use Rattle.host.specs.Paging.{nextPart, nextAnswer, nextCheck}
-use Rattle.host.specs.Reading.{readAnswer, readCheck}
+use Rattle.host.specs.Reading.{readList, readAnswer, readCheck}
 use Rattle.promises.specs.Box.{World, Op, Begin, Ingress, Write, Read, Open, Next, Close, Return, LookUp, Answered, Ended, Part, step, isRefused, codeOf, saidNumber, memoryOf, mountedAs, run}
 use Rattle.promises.specs.Refusal.{Unchanged, OnlyThere}
 use Rattle.promises.specs.Accepted.{BeginMay, IngressMay, WriteMay, ReadMay, OpenMay, NextMay, CloseMay}
@@ -44,7 +44,7 @@ use Rattle.promises.proofs.AskedHolds.{asked-by, panic-left, codes-are,
 use Rattle.promises.proofs.OutcomeHolds.{committed-exactly}
 use Rattle.promises.proofs.CardHolds.{only-commit, commit-appends, discard-restores}
 use Rattle.promises.proofs.DiaryHolds.{life-agrees}
-use Rattle.promises.proofs.ReadBackHolds.{write-reads-back, ingress-reads-back, kept-found, staged-found, page-stands}
+use Rattle.promises.proofs.ReadBackHolds.{write-reads-back, ingress-reads-back, kept-found, staged-found, page-stands, read-page-stands}
 use Rattle.promises.proofs.IdleHolds.{life-idle}
 use Rattle.promises.proofs.LifeHolds.{life-sane}
 use Rattle.promises.proofs.WeaveHolds.{begin-sets, weave-stays}
@@ -185,6 +185,10 @@ module _ (l : Lent) (used : ℕ) (os : List Op) (b : All (λ (o : Op). Bytes (me
 pub a-page-stands-in-memory : (w : World) (m : List ℕ) (at : ℕ) → isRefused (step w (Next m at) .said) ≡ false
     → HasPage (step w (Next m at) .memory) (nextArgs m at .out .ptr) (nextPart (w .lent) (w .host) m at)
 a-page-stands-in-memory = page-stands
+
+pub a-read-page-stands-in-memory : (w : World) (m : List ℕ) (at : ℕ) → isRefused (step w (Read m at) .said) ≡ false
+    → HasPage (step w (Read m at) .memory) (readArgs m at .out .ptr) (fit (readArgs m at .out .len) (readList (w .lent) (w .host) m at))
+a-read-page-stands-in-memory = read-page-stands
 
 -- ==== 3. "Paging is complete"
 

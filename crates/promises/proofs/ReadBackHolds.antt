@@ -14,7 +14,7 @@ use Rattle.manifest.specs.Saying.{mayRead}
 use Rattle.record.specs.Shown.{Framed}
 use Rattle.record.specs.Written.{Written}
 use Rattle.record.proofs.ShownLaws.{good-shown}
-use Rattle.card.specs.Pick.{All}
+use Rattle.card.specs.Pick.{All, only}
 use Rattle.card.specs.Records.{records}
 use Rattle.card.specs.Walk.{lookUp}
 use Rattle.card.specs.Listing.{fit}
@@ -24,14 +24,17 @@ use Rattle.card.proofs.ListingLaws.{listed-has}
 use Rattle.card.proofs.PageLaws.{size-fit}
 use Rattle.weave.specs.Codes.{isFine}
 use Rattle.weave.specs.Moves.{cursorOf}
-use Rattle.weave.specs.Args.{writeArgs, nextArgs}
+use Rattle.weave.specs.Args.{writeArgs, readArgs, nextArgs}
 use Rattle.takes.specs.Payloads.{payloadBytes}
 use Rattle.host.specs.Hosts.{lentCheck}
 use Rattle.host.specs.Stage.{headerFor, ingressCheck, ingressAnswer, ingressStaging, isPanic, writtenTopic, writeCheck, writeAnswer, writeStaging}
 use Rattle.host.specs.Paging.{nextList, nextPart, nextCheck, nextAnswer, nextMemory}
 use Rattle.host.specs.Mount.{looked}
+use Rattle.host.specs.Reading.{readSound, readList, readCheck, readAnswer, readMemory}
 use Rattle.host.proofs.PagingLaws.{next-lies}
-use Rattle.promises.specs.Box.{World, Ingress, Write, Next, LookUp, Part, step, isRefused}
+use Rattle.host.proofs.ReadingLaws.{out-lies}
+use Rattle.weave.proofs.CodeLaws.{first-left}
+use Rattle.promises.specs.Box.{World, Ingress, Write, Read, Next, LookUp, Part, step, isRefused}
 use Rattle.promises.specs.Diary.{Diary, ingressRecord, writtenRecord, Agrees}
 use Rattle.promises.specs.ReadBack.{HasPage}
 use Rattle.promises.proofs.AcceptedLaws.{settle-ok}
@@ -116,3 +119,29 @@ page-stands w m at e =
     (has-page m (nextArgs m at .out .ptr) (fit cap list)
     (all-fit Framed cap list (listed-has Framed (mayRead (w .lent .text) (w .host .weave .turn)) (cursorOf (w .host .weave) (nextArgs m at .handle)) _ (records-framed (take (w .host .used) (w .lent .card)) 1)))
     (omega (arith, size-fit cap list, next-lies (w .lent) (w .host) m at c)))
+
+-- ---- read: the same of the staged events that it lists
+
+all-only : (P : List ℕ → Type 0) (p : List ℕ → Bool) (rs : List (List ℕ)) → All P rs → All P (only p rs)
+unfolding only
+all-only P p [] a = tt
+all-only P p (r ∷ rs) a = go (p r) (all-only P p rs (a .1))
+  where
+    go : (b : Bool) → All P (only p rs) → All P (cond b (r ∷ only p rs) (only p rs))
+    go true ih = (a .0, ih)
+    go false ih = ih
+
+pub read-page-stands : (w : World) (m : List ℕ) (at : ℕ) → isRefused (step w (Read m at) .said) ≡ false
+    → HasPage (step w (Read m at) .memory) (readArgs m at .out .ptr) (fit (readArgs m at .out .len) (readList (w .lent) (w .host) m at))
+unfolding step readAnswer readMemory readList readCheck
+read-page-stands w m at e =
+    let c = settle-ok (w .host) (readCheck (w .lent) (w .host) m at) _ _ e in
+    let cap = readArgs m at .out .len in
+    let list = readList (w .lent) (w .host) m at in
+    rw c
+    (has-page m (readArgs m at .out .ptr) (fit cap list)
+    (all-fit Framed cap list (all-only Framed _ _ (records-framed (take (w .host .weave .staged) (w .lent .staging)) (w .host .next .0))))
+    (omega (arith, size-fit cap list, out-lies (w .lent) (w .host) m at (read-sound w m at c))))
+  where
+    read-sound : (w : World) (m : List ℕ) (at : ℕ) → isFine (readCheck (w .lent) (w .host) m at) ≡ true → isFine (readSound (w .lent) (w .host) m at) ≡ true
+    read-sound w m at c = first-left (readSound (w .lent) (w .host) m at) _ c
