@@ -96,8 +96,8 @@ pub record Allowed (may : List ℕ → Bool) (c : Cursor) (r : List ℕ) : Type 
 -- the cursor c is the one that the open at a of memory m asks for
 pub record AskedBy (m : List ℕ) (a : ℕ) (c : Cursor) : Type 0 where
   pub filter : filterOf c ≡ bytesAt m (openArgs m a .topic)
-  pub from : c .from .0 ≡ openArgs m a .from
-  pub to : c .to .0 ≡ openArgs m a .to
+  pub from : c .from .0 ≡ openArgs m a .from .0
+  pub to : c .to .0 ≡ openArgs m a .to .0
   pub limit : c .limit ≡ openArgs m a .limit
   -- "desc 0 lists ids upward, 1 downward"
   pub desc : c .desc ≡ eqb (openArgs m a .desc) 1

@@ -39,7 +39,7 @@ unfoldable pub readArgs : List ℕ → ℕ → ReadArgs
 readArgs m a =
     record {
       topic = record { ptr = fieldAt 8 m a 40 0; len = fieldAt 8 m a 40 8 };
-      start = fieldAt 8 m a 40 16;
+      start = record { 0 = fieldAt 8 m a 40 16 };
       out = record { ptr = fieldAt 8 m a 40 24; len = fieldAt 8 m a 40 32 };
     }
 
@@ -48,8 +48,8 @@ unfoldable pub openArgs : List ℕ → ℕ → OpenArgs
 openArgs m a =
     record {
       topic = record { ptr = fieldAt 8 m a 48 0; len = fieldAt 8 m a 48 8 };
-      from = fieldAt 8 m a 48 16;
-      to = fieldAt 8 m a 48 24;
+      from = record { 0 = fieldAt 8 m a 48 16 };
+      to = record { 0 = fieldAt 8 m a 48 24 };
       limit = fieldAt 8 m a 48 32;
       desc = fieldAt 1 m a 48 40;
     }

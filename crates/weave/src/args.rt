@@ -3,6 +3,7 @@ ghost use mathlib.Core.Path.{_≡_};
 ghost use Prim.Native.Nat.{_+_, _≤_};
 ghost use lib.ListN.{length};
 ghost use Rattle.weave.specs.Args.{recordFine, fieldAt, writeArgs, readArgs, openArgs, nextArgs, bytesAt, topicFine, filterFine, outFine, payloadFine, filterBytes};
+use record::EventId;
 use text::limits::Limits;
 use value::Span;
 
@@ -15,14 +16,14 @@ pub struct WriteArgs {
 
 pub struct ReadArgs {
     pub topic: Span,
-    pub start: u64,
+    pub start: EventId,
     pub out: Span,
 }
 
 pub struct OpenArgs {
     pub topic: Span,
-    pub from: u64,
-    pub to: u64,
+    pub from: EventId,
+    pub to: EventId,
     pub limit: u64,
     pub desc: u8,
 }
@@ -100,7 +101,7 @@ impl ReadArgs {
                 ptr: field(m, a, 40, 0),
                 len: field(m, a, 40, 8),
             },
-            start: field(m, a, 40, 16),
+            start: EventId(field(m, a, 40, 16)),
             out: Span {
                 ptr: field(m, a, 40, 24),
                 len: field(m, a, 40, 32),
@@ -120,8 +121,8 @@ impl OpenArgs {
                 ptr: field(m, a, 48, 0),
                 len: field(m, a, 48, 8),
             },
-            from: field(m, a, 48, 16),
-            to: field(m, a, 48, 24),
+            from: EventId(field(m, a, 48, 16)),
+            to: EventId(field(m, a, 48, 24)),
             limit: field(m, a, 48, 32),
             desc: field_u8(m, a, 48, 40),
         }
