@@ -17,6 +17,9 @@ use Rattle.le.proofs.TestLaws.{and-left, and-right}
 use Rattle.text.specs.Span.{inside}
 use Rattle.text.specs.Topic.{goodText}
 use Rattle.text.proofs.SpanLaws.{inside-end}
+use Rattle.value.specs.Values.{faultNumber}
+use Rattle.value.specs.declared.Fault.{Fault}
+use Rattle.value.specs.declared.Fault.the-variants.{Fine as NoFault, Outside, Unfit}
 use Rattle.card.specs.Listing.{filterOf}
 use Rattle.weave.specs.declared.Code.the-variants.{Denied, NotNow, Unsound, NoRoom, Bad, Budget, BadValue}
 use Rattle.weave.specs.Codes.{isFine, number}
@@ -24,6 +27,7 @@ use Rattle.weave.specs.Sums.{added}
 use Rattle.weave.specs.States.{paid, spoilt}
 use Rattle.weave.specs.Args.{openArgs, filterFine, filterBytes}
 use Rattle.takes.specs.Opening.{opening}
+use Rattle.takes.specs.Payloads.{faultCode}
 use Rattle.host.specs.declared.Fate.the-variants.{Refused, Discarded, Running, Committed}
 use Rattle.host.specs.Hosts.{refused, settle}
 use Rattle.host.specs.Stage.{isPanic, panicked, written, writeCheck, writeAnswer, writeStaging}
@@ -83,6 +87,12 @@ panic-left w m a e p =
 pub codes-are : map number (Denied ∷ NotNow ∷ Unsound ∷ NoRoom ∷ Bad ∷ Budget ∷ BadValue ∷ [])
     ≡ negsuc 0 ∷ negsuc 1 ∷ negsuc 2 ∷ negsuc 3 ∷ negsuc 4 ∷ negsuc 5 ∷ negsuc 6 ∷ []
 codes-are = refl
+
+-- a value's fault and the code that it gives have one number
+pub fault-numbers : (f : Fault) → faultNumber f ≡ number (faultCode f)
+fault-numbers NoFault = refl
+fault-numbers Outside = refl
+fault-numbers Unfit = refl
 
 -- a refusal says its code's number, and that is no answer
 pub refusal-number : (s : Said) → isRefused s ≡ true → saidNumber s ≡ number (codeOf s)
