@@ -344,6 +344,18 @@ weave-args-openargs-read κs a z z′ s s′ p q = p ∙ sym q
 pub weave-args-nextargs-read : ResultOnce weave.args.NextArgs.read.Kinds.ps weave.args.NextArgs.read.Kinds.r weave.args.NextArgs.read.Reads.Learnt
 weave-args-nextargs-read κs a z z′ s s′ p q = p ∙ sym q
 
+pub weave-weave-cursor-of : ResultOnce weave.Weave.cursor_of.Kinds.ps weave.Weave.cursor_of.Kinds.r weave.Weave.cursor_of.Reads.Learnt
+weave-weave-cursor-of κs a z z′ s s′ p q = p ∙ sym q
+
+pub weave-weave-opened-with : ResultOnce weave.Weave.opened_with.Kinds.ps weave.Weave.opened_with.Kinds.r weave.Weave.opened_with.Reads.Learnt
+weave-weave-opened-with κs a z z′ s s′ p q = p ∙ sym q
+
+pub weave-weave-moved-to : ResultOnce weave.Weave.moved_to.Kinds.ps weave.Weave.moved_to.Kinds.r weave.Weave.moved_to.Reads.Learnt
+weave-weave-moved-to κs a z z′ s s′ p q = p ∙ sym q
+
+pub weave-weave-closed-at : ResultOnce weave.Weave.closed_at.Kinds.ps weave.Weave.closed_at.Kinds.r weave.Weave.closed_at.Reads.Learnt
+weave-weave-closed-at κs a z z′ s s′ p q = p ∙ sym q
+
 -- ---- takes on their way
 
 pub takes-begun-begun : ResultOnce takes.begun.begun.Kinds.ps takes.begun.begun.Kinds.r takes.begun.begun.Reads.Learnt
