@@ -1,4 +1,2 @@
-pub mod StageLaws
+pub mod EntryLaws
 pub mod EndingLaws
-pub mod PagingLaws
-pub mod ReadingLaws

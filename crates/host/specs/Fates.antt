@@ -21,11 +21,11 @@ fateEvents (Discarded c) = 0
 fateEvents Running = 0
 fateEvents (Committed events bytes) = events
 
-abbrev pub kept : Fate → ℕ
-kept (Refused c) = 0
-kept (Discarded c) = 0
-kept Running = 0
-kept (Committed events bytes) = bytes
+abbrev pub fateBytes : Fate → ℕ
+fateBytes (Refused c) = 0
+fateBytes (Discarded c) = 0
+fateBytes Running = 0
+fateBytes (Committed events bytes) = bytes
 
 -- the weave is over: "Both leave staging all 0."
 abbrev pub ends : Fate → Bool

@@ -1,9 +1,5 @@
 pub mod Hosts
 pub mod Cursors
 pub mod Begin
-pub mod Stage
 pub mod Fates
 pub mod Ending
-pub mod Mount
-pub mod Paging
-pub mod Reading

@@ -1,15 +1,12 @@
-// The host: its state by value, and every operation, each a straight line of checks in document 01's order.
+// The host: its state by value, checks 1 to 3, the one place where a call is accepted or refused, and begin, open, close and return. The other operations are
+// functions over this state, in crates of their own.
 pub mod begin;
 pub mod cursors;
 pub mod ending;
-pub mod mount;
-pub mod next;
 pub mod outcome;
-pub mod read;
-pub mod stage;
 pub mod state;
-pub mod write;
 
+use manifest::Manifest;
 use record::EventId;
 use weave::Code;
 use weave::Lengths;
@@ -22,6 +19,12 @@ pub struct Host {
     pub next: EventId,
     pub faulted: bool,
     pub weave: Weave,
+}
+
+// What the first checks of an operation find, and the manifest as it was read for them.
+pub struct Entry {
+    pub check: Code,
+    pub grants: Manifest,
 }
 
 // What an operation answers: Fine and a number, or the code it was refused with; and the next state.

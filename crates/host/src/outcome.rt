@@ -1,6 +1,6 @@
 // What a module's return leads to: document 01's number for each case, and its values.
 ghost use mathlib.Core.Path.{_≡_};
-ghost use Rattle.host.specs.Fates.{fateNumber, fateEvents, kept, ends};
+ghost use Rattle.host.specs.Fates.{fateNumber, fateEvents, fateBytes, ends};
 use crate::Fate;
 
 impl Fate {
@@ -35,8 +35,8 @@ impl Fate {
     }
 
     // How many bytes it puts there.
-    pub fn kept(self) -> usize
-        ensures { λ r. ⌜ r ≡ kept self ⌝ }
+    pub fn bytes(self) -> usize
+        ensures { λ r. ⌜ r ≡ fateBytes self ⌝ }
     {
         match self {
             Fate::Refused(c) => 0,

@@ -7,10 +7,9 @@ use Prim.Native.Nat.{ℕ, zero, suc, _+_, _-_, _≤_, _<_}
 use native.Mathlib.Nat.{le-refl, le-of-suc-le-suc, not-suc-le-zero, suc-add, zero-add, sub-zero, zero-sub, suc-sub-suc}
 use native.Mathlib.Omega.{arith}
 use lib.ListN.{length, getD, set, take, drop, length-append, length-take, length-drop}
-use lib.Seq.{take-at, take-append-le, drop-append-le, drop-append-add, take-length, drop-cons, take-all, length-take-le, getD-take, getD-drop, take-take, drop-drop, drop-nil, take-nil, take-add, drop-at}
+use lib.Seq.{take-at, take-append-le, drop-append-le, drop-append-add, take-length, drop-cons, take-all, length-take-le, take-take, drop-drop, drop-nil, take-nil, take-add, drop-at}
 use borrow.Author.Tests.{ne-eqb, eqb-true}
 use lib.Dec.{eqb}
-use borrow.Rule.Slice.PartMut.{putMid}
 use Rattle.le.specs.Splice.{splice, zeros, part, allZero}
 use Rattle.le.proofs.TestLaws.{and-left, and-right}
 
@@ -148,9 +147,6 @@ part-splice-before k n xs at ys h =
     ap (λ (j : ℕ). take n (drop k (splice xs j ys))) e ∙ ap (take n) (drop-splice k xs (at - k) ys)
     ∙ take-splice-before n (drop k xs) (at - k) ys (omega arith)
 
-part-splice-after : (k n : ℕ) (xs : List ℕ) (at : ℕ) (ys : List ℕ) → at + length ys ≤ k → take n (drop k (splice xs at ys)) ≡ take n (drop k xs)
-part-splice-after k n xs at ys h = ap (take n) (drop-splice-after k xs at ys h)
-
 -- ---- as a cut and a paste: how a part that was lent as `&mut s[a..e]` comes back
 
 pub splice-cut : (xs : List ℕ) (at : ℕ) (ys : List ℕ) → at + length ys ≤ length xs → splice xs at ys ≡ take at xs ++ (ys ++ drop (at + length ys) xs)
@@ -175,14 +171,6 @@ pub set-splice : (xs : List ℕ) (i v : ℕ) → set xs i v ≡ splice xs i (v �
 set-splice xs i v = sym (splice-cons xs i v [] ∙ splice-nil (set xs i v) (suc i))
 
 -- ---- a splice of a splice: over the same place, and at places apart
-
-pub splice-over : (xs : List ℕ) (at : ℕ) (ys zs : List ℕ) → length ys ≤ length zs → splice (splice xs at ys) at zs ≡ splice xs at zs
-unfolding splice
-splice-over [] at ys zs h = refl
-splice-over (x ∷ xs) zero [] zs h = refl
-splice-over (x ∷ xs) zero (y ∷ ys) [] h = absurd (not-suc-le-zero h)
-splice-over (x ∷ xs) zero (y ∷ ys) (z ∷ zs) h = ap (λ (r : List ℕ). z ∷ r) (splice-over xs zero ys zs (le-of-suc-le-suc h))
-splice-over (x ∷ xs) (suc at) ys zs h = ap (λ (r : List ℕ). x ∷ r) (splice-over xs at ys zs h)
 
 pub splice-comm : (xs : List ℕ) (at : ℕ) (ys : List ℕ) (bt : ℕ) (zs : List ℕ) → at + length ys ≤ bt
     → splice (splice xs at ys) bt zs ≡ splice (splice xs bt zs) at ys
@@ -212,14 +200,6 @@ splice-inner m zero r k ys h = rw (zero-add k) (within-first m r k ys h)
 splice-inner [] (suc at) r k ys h = refl
 splice-inner (x ∷ m) (suc at) r k ys h = rw (suc-add at k) (ap (λ (l : List ℕ). x ∷ l) (splice-inner m at r k ys h))
 
--- what is there, written over itself
-pub splice-same : (xs : List ℕ) (at n : ℕ) → splice xs at (take n (drop at xs)) ≡ xs
-unfolding splice
-splice-same [] at n = refl
-splice-same (x ∷ xs) zero zero = refl
-splice-same (x ∷ xs) zero (suc n) = ap (λ (r : List ℕ). x ∷ r) (splice-same xs zero n)
-splice-same (x ∷ xs) (suc at) n = ap (λ (r : List ℕ). x ∷ r) (splice-same xs at n)
-
 -- one call that writes after another, where the first ended: what a run of writes comes to
 pub splice-then : (s₀ s₁ s₂ : List ℕ) (at k : ℕ) (ys zs : List ℕ) → s₁ ≡ splice s₀ at ys → k ≡ at + length ys → s₂ ≡ splice s₁ k zs
     → s₂ ≡ splice s₀ at (ys ++ zs)
@@ -239,10 +219,6 @@ part-none s a n e = rw e
 pub length-part : (a n : ℕ) (s : List ℕ) → a + n ≤ length s → length (part a n s) ≡ n
 unfolding part
 length-part a n s h = length-take-le n (drop a s) (simp length-drop (omega arith))
-
-pub getD-part : (a n : ℕ) (s : List ℕ) (i : ℕ) → i < n → getD (part a n s) i 0 ≡ getD s (a + i) 0
-unfolding part
-getD-part a n s i h = getD-take n (drop a s) i 0 h ∙ getD-drop a s i 0
 
 pub part-of-part : (a n b m : ℕ) (s : List ℕ) → b + m ≤ n → part b m (part a n s) ≡ part (a + b) m s
 unfolding part
@@ -264,10 +240,6 @@ pub part-before : (a n : ℕ) (s : List ℕ) (at : ℕ) (ys : List ℕ) → a + 
 unfolding part
 part-before a n s at ys h = part-splice-before a n s at ys h
 
-pub part-after : (a n : ℕ) (s : List ℕ) (at : ℕ) (ys : List ℕ) → at + length ys ≤ a → part a n (splice s at ys) ≡ part a n s
-unfolding part
-part-after a n s at ys h = part-splice-after a n s at ys h
-
 -- ---- allZero, for a loop: `all` is what the whole gives, `p` what is left
 
 pub zero-turn : (p p′ : List ℕ) (b : ℕ) (all : Bool) → p ≡ b ∷ p′ → b ≡ 0 → allZero p ≡ all → allZero p′ ≡ all
@@ -288,39 +260,6 @@ zeros-allZero zero = refl
 zeros-allZero (suc n) = zeros-allZero n
 
 -- ---- a part that was lent as `&mut s[a..e]` and has come back: the borrow checker says `putMid a (e - a) s ys`, with ys what the part is now
-
-pub splice-within : (k : ℕ) (xs : List ℕ) (j : ℕ) (ys : List ℕ) → j + length ys ≤ k → splice xs 0 (splice (take k xs) j ys) ≡ splice xs j ys
-unfolding splice
-splice-within zero [] j ys h = refl
-splice-within (suc k) [] j ys h = refl
-splice-within zero (x ∷ xs) zero [] h = refl
-splice-within zero (x ∷ xs) zero (y ∷ ys) h = absurd (omega arith)
-splice-within zero (x ∷ xs) (suc j) ys h = absurd (omega arith)
-splice-within (suc k) (x ∷ xs) zero [] h = ap (λ (r : List ℕ). x ∷ r) (splice-same xs zero k)
-splice-within (suc k) (x ∷ xs) zero (y ∷ ys) h = ap (λ (r : List ℕ). y ∷ r) (splice-within k xs zero ys (omega arith))
-splice-within (suc k) (x ∷ xs) (suc j) ys h = ap (λ (r : List ℕ). x ∷ r) (splice-within k xs j ys (omega arith))
-
-pub splice-part : (a k : ℕ) (xs : List ℕ) (j : ℕ) (ys : List ℕ) → j + length ys ≤ k → splice xs a (splice (part a k xs) j ys) ≡ splice xs (a + j) ys
-unfolding splice part
-splice-part zero k xs j ys h = rw (zero-add j) (splice-within k xs j ys h)
-splice-part (suc a) k [] j ys h = refl
-splice-part (suc a) k (x ∷ xs) j ys h = rw (suc-add a j) (ap (λ (r : List ℕ). x ∷ r) (splice-part a k xs j ys h))
-
-pub put-mid : (a k : ℕ) (xs ys : List ℕ) → length ys ≡ k → a + k ≤ length xs → putMid a k xs ys ≡ splice xs a ys
-put-mid a k xs ys e h =
-    ap (λ (r : List ℕ). take a xs ++ (ys ++ r)) (drop-drop k a xs ∙ ap (λ (m : ℕ). drop (a + m) xs) (sym e))
-    ∙ sym (splice-cut xs a ys (omega arith))
-
--- a leaf wrote ys at j of the part: they stand at a + j of the whole
-pub lent-splice : (a k : ℕ) (xs : List ℕ) (j : ℕ) (ys zs : List ℕ) → a + k ≤ length xs → j + length ys ≤ k → zs ≡ splice (part a k xs) j ys
-    → putMid a k xs zs ≡ splice xs (a + j) ys
-lent-splice a k xs j ys zs h l e =
-    rw e (put-mid a k xs (splice (part a k xs) j ys) (length-splice (part a k xs) j ys ∙ length-part a k xs h) h ∙ splice-part a k xs j ys l)
-
--- what `&s[a..e]` is, with e at a + n
-pub lent-part : (a n : ℕ) (s : List ℕ) → take (a + n - a) (drop a s) ≡ part a n s
-unfolding part
-lent-part a n s = let e : a + n - a ≡ n = omega arith in rw e
 
 -- what `&s[at..]` is
 pub lent-tail : (s : List ℕ) (at : ℕ) → take (length s - at) (drop at s) ≡ drop at s

@@ -1,6 +1,6 @@
 -- Arguments laid over a memory.
 -- Assumes nothing.
-use mathlib.Core.Path.{_≡_, refl, ap, sym, _∙_}
+use mathlib.Core.Path.{_≡_, refl, ap, _∙_}
 use mathlib.Core.List.{List, [], _∷_, _++_, append-assoc, append-nil}
 use Prim.Native.Nat.{ℕ, zero, suc, _+_, _-_, _≤_}
 use native.Mathlib.Nat.{sub-zero, suc-sub-suc, not-suc-le-zero, le-of-suc-le-suc}
@@ -66,7 +66,7 @@ write-laid m s₁ s₂ s₃ s₄ topic payload k ek p q u v =
     v ∙ rw (u, six-laid m s₁ s₂ 56 (length topic) k (length payload) 1 0 p q, ek)
 
 pub open-laid : (m s₁ s₂ s₃ filter : List ℕ) (w : Window)
-    → s₁ ≡ splice m 8 (words (56 ∷ length filter ∷ w .from ∷ [])) → s₂ ≡ splice s₁ 32 (words (w .to ∷ w .limit ∷ w .desc ∷ [])) → s₃ ≡ splice s₂ 56 filter
+    → s₁ ≡ splice m 8 (words (56 ∷ length filter ∷ w .from .0 ∷ [])) → s₂ ≡ splice s₁ 32 (words (w .to .0 ∷ w .limit ∷ w .desc ∷ [])) → s₃ ≡ splice s₂ 56 filter
     → s₃ ≡ openLaid m filter w
 unfolding openLaid
-open-laid m s₁ s₂ s₃ filter w p q u = u ∙ rw (six-laid m s₁ s₂ 56 (length filter) (w .from) (w .to) (w .limit) (w .desc) p q)
+open-laid m s₁ s₂ s₃ filter w p q u = u ∙ rw (six-laid m s₁ s₂ 56 (length filter) (w .from .0) (w .to .0) (w .limit) (w .desc) p q)

@@ -5,17 +5,16 @@ use mathlib.Core.Bool.{Bool, true, false}
 use mathlib.Core.List.{List, [], _∷_, _++_, append-assoc}
 use Prim.Native.Nat.{ℕ, zero, suc, _+_, _/_, _≤_}
 use native.Mathlib.Omega.{arith}
-use lib.Dec.{leb, ltb}
+use lib.Dec.{ltb}
 use lib.ListN.{length, set, length-append}
 use borrow.Author.Tests.{le-leb}
-use Rattle.le.specs.Splice.{splice, wholly}
+use Rattle.le.specs.Splice.{wholly}
 use Rattle.le.proofs.SpliceLaws.{length-splice, splice-nil, splice-then, set-splice}
-use Rattle.le.proofs.TestLaws.{Tested, tested}
-use Rattle.text.specs.Decimal.{digitsIn, higher, decimal}
+use Rattle.text.specs.Decimal.{higher, decimal}
 use Rattle.text.proofs.DigitLaws.{length-digits}
 use Rattle.weave.specs.declared.Code.{Code}
 use Rattle.weave.specs.declared.Code.the-variants.{Fine, Denied, NotNow, Unsound, NoRoom, Bad, Budget, BadValue}
-use Rattle.weave.specs.Codes.{isFine, number}
+use Rattle.weave.specs.Codes.{isFine}
 use Rattle.script.specs.Saying.{Put, behind, printed, numberText, sizeOf, answerText}
 
 pub put-none : (s : List ℕ) (at : ℕ) → at ≤ length s → Put s s at [] at

@@ -81,9 +81,9 @@ isReturn s = formed returnWord 2 s && goodCode (field 1 s)
 -- the line; texts, and a return's code, stay in it. "A line of another form" is Bad
 unfoldable pub lineOf : List ℕ → Line
 lineOf s =
-    cond (isBegin s) (Begin (valueAt 1 s) (valueAt 2 s))
+    cond (isBegin s) (Begin (valueAt 1 s) (record { 0 = valueAt 2 s }))
     (cond (isWrite s) Write
-    (cond (isOpen s) (Open (record { from = valueAt 2 s; to = valueAt 3 s; limit = valueAt 4 s; desc = valueAt 5 s }))
+    (cond (isOpen s) (Open (record { from = record { 0 = valueAt 2 s }; to = record { 0 = valueAt 3 s }; limit = valueAt 4 s; desc = valueAt 5 s }))
     (cond (isNext s) (Next (valueAt 1 s) (valueAt 2 s))
     (cond (isReturn s) Return
     Bad))))

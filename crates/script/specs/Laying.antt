@@ -25,7 +25,7 @@ writeLaid m topic payload =
 
 -- tl_open: topic 0, start 16, end 24, limit 32, desc 40
 unfoldable pub openLaid : List ℕ → List ℕ → Window → List ℕ
-openLaid m filter w = splice (splice m 8 (words (56 ∷ length filter ∷ w .from ∷ w .to ∷ w .limit ∷ w .desc ∷ []))) 56 filter
+openLaid m filter w = splice (splice m 8 (words (56 ∷ length filter ∷ w .from .0 ∷ w .to .0 ∷ w .limit ∷ w .desc ∷ []))) 56 filter
 
 -- tl_next: handle 0, out_ptr 8, buf_cap 16
 unfoldable pub nextLaid : List ℕ → ℕ → ℕ → List ℕ

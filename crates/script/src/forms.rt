@@ -2,6 +2,8 @@
 ghost use mathlib.Core.Path.{_≡_};
 ghost use mathlib.Core.Bool.{true};
 ghost use Rattle.script.specs.Forms.{isNumber, valueOf, numeral, valueAt, formed, minus, unsigned, inRange, goodCode, signed, codeOf, isBegin, isWrite, isOpen, isNext, isReturn, lineOf};
+use record::EventId;
+use record::VirtualTime;
 use text::compare::same;
 use text::decimal::Number;
 use text::decimal::read_number;
@@ -10,15 +12,15 @@ use text::lines::field_count;
 
 // What a cursor is asked to list, but for its filter.
 pub struct Window {
-    pub from: u64,
-    pub to: u64,
+    pub from: EventId,
+    pub to: EventId,
     pub limit: u64,
     pub desc: u64,
 }
 
 // A line's numbers. Its texts, and a return's code, stay in it.
 pub enum Line {
-    Begin { units: u64, time: u64 },
+    Begin { units: u64, time: VirtualTime },
     Write,
     Open(Window),
     Next { handle: u64, cap: u64 },
@@ -156,7 +158,7 @@ impl Line {
         if is_begin(line) {
             return Line::Begin {
                 units: value_at(line, 1),
-                time: value_at(line, 2),
+                time: VirtualTime(value_at(line, 2)),
             };
         }
         if formed(line, b"write", 3) {
@@ -164,8 +166,8 @@ impl Line {
         }
         if is_open(line) {
             return Line::Open(Window {
-                from: value_at(line, 2),
-                to: value_at(line, 3),
+                from: EventId(value_at(line, 2)),
+                to: EventId(value_at(line, 3)),
                 limit: value_at(line, 4),
                 desc: value_at(line, 5),
             });

@@ -7,6 +7,8 @@ ghost use Rattle.le.specs.Splice.{splice};
 ghost use Rattle.script.specs.Laying.{words, beginLaid, writeLaid, openLaid, nextLaid};
 use crate::Buffer;
 use crate::forms::Window;
+use record::VirtualTime;
+use weave::Weave;
 
 // All of src, laid over dst from `at` on, as much of it as there is room for.
 pub fn lay(src: &[u8], dst: &mut [u8], at: usize)
@@ -28,12 +30,12 @@ fn put_three(m: &mut [u8], at: usize, a: u64, b: u64, c: u64)
     le::put_u64(m, at + 16, c);
 }
 
-pub fn begin_args(units: u64, time: u64) -> [u8; 128]
-    ensures { λ r. ⌜ r ≡ beginLaid units time ⌝ }
+pub fn begin_args(units: u64, time: VirtualTime) -> [u8; Weave::ARGS]
+    ensures { λ r. ⌜ r ≡ beginLaid units (time .0) ⌝ }
 {
-    let mut args = [0u8; 128];
-    le::put_u64(&mut args, 24, units);
-    le::put_u64(&mut args, 48, time);
+    let mut args = [0u8; Weave::ARGS];
+    le::put_u64(&mut args, Weave::RES_MAX, units);
+    le::put_u64(&mut args, Weave::VIRT_TIME, time.0);
     args
 }
 
@@ -51,8 +53,8 @@ pub fn lay_write(memory: &mut Buffer, topic: &[u8], payload: &[u8])
 pub fn lay_open(memory: &mut Buffer, filter: &[u8], w: Window)
     ensures { λ _. ⌜ now (memory .exit) ≡ openLaid (now (memory .entry)) (now (filter .entry)) w ⌝ }
 {
-    put_three(memory, 8, 56, filter.len() as u64, w.from);
-    put_three(memory, 32, w.to, w.limit, w.desc);
+    put_three(memory, 8, 56, filter.len() as u64, w.from.0);
+    put_three(memory, 32, w.to.0, w.limit, w.desc);
     lay(filter, memory, 56);
 }
 

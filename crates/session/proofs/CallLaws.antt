@@ -1,6 +1,6 @@
 -- A call's answer, the buffers and what is printed, put together.
 -- Assumes nothing.
-use mathlib.Core.Path.{_≡_, refl, ap, sym, _∙_}
+use mathlib.Core.Path.{_≡_, refl, ap, _∙_}
 use mathlib.Core.List.{List, _++_}
 use Prim.Native.Nat.{ℕ}
 use lib.IntN.{ℤ}
@@ -10,9 +10,9 @@ use Rattle.host.specs.declared.Answer.{Answer}
 use Rattle.host.specs.declared.Returned.{Returned}
 use Rattle.host.specs.Hosts.{Lent}
 use Rattle.host.specs.Begin.{beginAnswer, beginStaging}
-use Rattle.host.specs.Stage.{writeAnswer, writeStaging}
+use Rattle.writes.specs.Stage.{writeAnswer, writeStaging}
 use Rattle.host.specs.Cursors.{openAnswer}
-use Rattle.host.specs.Paging.{nextAnswer, nextMemory}
+use Rattle.reads.specs.Paging.{nextAnswer, nextMemory}
 use Rattle.host.specs.Ending.{returnAnswer, returnCard, returnStaging}
 use Rattle.script.specs.Words.{beginWord, writeWord, openWord, nextWord}
 use Rattle.script.specs.Laying.{beginLaid}

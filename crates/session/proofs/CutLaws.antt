@@ -1,7 +1,7 @@
 -- A line that is cut off behind 65,536 bytes is answered as the whole line is: what is not kept of a line decides nothing.
 -- Assumes nothing.
 use mathlib.Core.Path.{_≡_, refl}
-use mathlib.Core.Bool.{true, false}
+use mathlib.Core.Bool.{false}
 use mathlib.Core.List.{List}
 use Prim.Native.Nat.{ℕ, _+_, _<_}
 use native.Mathlib.Omega.{arith}
@@ -12,7 +12,7 @@ use borrow.Author.Tests.{leb-true, leb-false, lt-leb}
 use Rattle.le.proofs.TestLaws.{Tested, tested, passes, fails}
 use Rattle.text.proofs.CompareLaws.{same-length-differs}
 use Rattle.script.specs.Words.{goWord}
-use Rattle.session.specs.Sessions.{Buffers, isGo, playing, listed, listing, refusedMount, inPhase, answered}
+use Rattle.session.specs.Sessions.{Buffers, isGo, playing, manifestLine, listing, refusedMount, inPhase, answered}
 use Rattle.session.specs.declared.Phase.{Phase}
 use Rattle.session.specs.declared.Phase.the-variants.{Listing, Overfull, Playing, Over}
 use Rattle.session.specs.declared.Session.{Session}
@@ -23,7 +23,7 @@ unfolding goWord
 not-go line h = same-length-differs line goWord (λ e. omega arith)
 
 pub cut-same : (s : Session) (b : Buffers) (line : List ℕ) → answered s b (take 65536 line) ≡ answered s b line
-unfolding answered inPhase listing listed refusedMount playing
+unfolding answered inPhase listing manifestLine refusedMount playing
 cut-same s b line = go (tested (leb (length line) 65536))
   where
     long : (p : Phase) → 65536 < length line → length (take 65536 line) ≡ 65536 → inPhase p s b (take 65536 line) ≡ inPhase p s b line

@@ -3,7 +3,7 @@
 use mathlib.Core.Path.{_≡_, refl, ap, sym, _∙_}
 use mathlib.Core.Bool.{Bool, true, false}
 use mathlib.Core.List.{List, [], _∷_, _++_}
-use Prim.Native.Nat.{ℕ, _+_, _≤_}
+use Prim.Native.Nat.{ℕ, _+_}
 use native.Mathlib.Omega.{arith}
 use lib.Dec.{leb}
 use lib.ListN.{length, set}
@@ -14,7 +14,7 @@ use Rattle.host.specs.declared.Host.{Host}
 use Rattle.host.specs.declared.Mounted.{Mounted}
 use Rattle.script.specs.Saying.{Put, saidBad, saidMount}
 use Rattle.session.specs.Calls.{After, Does}
-use Rattle.session.specs.Sessions.{Buffers, buffersOf, Answers, counted, became, badAnswer, called, mountAnswer, listed}
+use Rattle.session.specs.Sessions.{Buffers, buffersOf, Answers, counted, became, badAnswer, called, mountAnswer, manifestLine}
 use Rattle.session.specs.declared.Phase.the-variants.{Listing, Overfull, Playing, Over}
 use Rattle.session.specs.declared.Session.{Session}
 use Rattle.script.proofs.SayLaws.{put-none}
@@ -47,11 +47,11 @@ unfolding mountAnswer
 mount-refused s next′ b m m′ o o′ n t e f g en p =
     rw (sym (ap (λ (x : Mounted). isFine (x .code)) e) ∙ sym f ∙ g) (record { next = en; buffers = refl; said = rw e at p })
 
-pub listed-on : (s next′ : Session) (b : Buffers) (line text₁ o : List ℕ) (t : Bool) (i : ℕ) → t ≡ leb (s .size + length line) 65535 → t ≡ true
+pub line-on : (s next′ : Session) (b : Buffers) (line text₁ o : List ℕ) (t : Bool) (i : ℕ) → t ≡ leb (s .size + length line) 65535 → t ≡ true
     → text₁ ≡ splice (b .text) (s .size) line → i ≡ s .size + length line → next′ ≡ became s Listing (i + 1) (s .host)
-    → Answers (listed s b line) next′ (buffersOf (b .memory) (b .staging) (b .card) (set text₁ i 10)) o o 0
-unfolding listed
-listed-on s next′ b line text₁ o t i f g e ei en =
+    → Answers (manifestLine s b line) next′ (buffersOf (b .memory) (b .staging) (b .card) (set text₁ i 10)) o o 0
+unfolding manifestLine
+line-on s next′ b line text₁ o t i f g e ei en =
     rw (sym f ∙ g)
     (record {
       next = rw ei at en;
@@ -62,7 +62,7 @@ listed-on s next′ b line text₁ o t i f g e ei en =
     closed : set text₁ i 10 ≡ splice (b .text) (s .size) (line ++ (10 ∷ []))
     closed = splice-then (b .text) text₁ (set text₁ i 10) (s .size) i line (10 ∷ []) e ei (set-splice text₁ i 10)
 
-pub listed-over : (s next′ : Session) (b : Buffers) (line o : List ℕ) (t : Bool) → t ≡ leb (s .size + length line) 65535 → t ≡ false
-    → next′ ≡ became s Overfull (s .size) (s .host) → Answers (listed s b line) next′ b o o 0
-unfolding listed
-listed-over s next′ b line o t f g en = rw (sym f ∙ g) (record { next = en; buffers = refl; said = put-none o 0 (omega arith) })
+pub line-over : (s next′ : Session) (b : Buffers) (line o : List ℕ) (t : Bool) → t ≡ leb (s .size + length line) 65535 → t ≡ false
+    → next′ ≡ became s Overfull (s .size) (s .host) → Answers (manifestLine s b line) next′ b o o 0
+unfolding manifestLine
+line-over s next′ b line o t f g en = rw (sym f ∙ g) (record { next = en; buffers = refl; said = put-none o 0 (omega arith) })

@@ -8,12 +8,12 @@ use Rattle.le.specs.Splice.{part}
 use Rattle.host.specs.declared.Host.{Host}
 use Rattle.host.specs.Hosts.{Lent}
 use Rattle.host.specs.Begin.{beginAnswer, beginStaging}
-use Rattle.host.specs.Stage.{writeAnswer, writeStaging}
+use Rattle.writes.specs.Stage.{writeAnswer, writeStaging}
 use Rattle.host.specs.Cursors.{openAnswer}
-use Rattle.host.specs.Paging.{nextAnswer, nextMemory}
+use Rattle.reads.specs.Paging.{nextAnswer, nextMemory}
 use Rattle.host.specs.Ending.{returnAnswer, returnCard, returnStaging}
 use Rattle.script.specs.Words.{beginWord, writeWord, openWord, nextWord}
-use Rattle.script.specs.Laying.{beginLaid, writeLaid, openLaid, nextLaid}
+use Rattle.script.specs.Laying.{beginLaid}
 use Rattle.script.specs.Saying.{Put, saidAnswer}
 use Rattle.session.specs.Fates.{saidFate}
 use Rattle.script.specs.Events.{eventLines}

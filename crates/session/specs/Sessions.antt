@@ -14,8 +14,8 @@ use Rattle.weave.specs.Codes.{isFine}
 use Rattle.weave.specs.Sums.{added}
 use Rattle.host.specs.declared.Host.{Host}
 use Rattle.host.specs.declared.Mounted.{Mounted}
-use Rattle.host.specs.Hosts.{Lent, lentAs}
-use Rattle.host.specs.Mount.{mounted, freshHost}
+use Rattle.host.specs.Hosts.{Lent, lentAs, noHost}
+use Rattle.mounts.specs.Mount.{mounted}
 use Rattle.script.specs.Words.{goWord}
 use Rattle.script.specs.Forms.{codeOf, lineOf}
 use Rattle.script.specs.Laying.{writeLaid, openLaid, nextLaid}
@@ -60,7 +60,7 @@ became s phase′ size′ host′ = record { phase = phase′; lines = counted s
 
 -- before the first line
 unfoldable pub freshSession : Session
-freshSession = record { phase = Listing; lines = 0; size = 0; host = freshHost (record { staging = 0; card = 0; «manifest» = 0 }) 0 0 }
+freshSession = record { phase = Listing; lines = 0; size = 0; host = noHost }
 
 -- ---- behind `go`
 
@@ -77,7 +77,7 @@ called s b a =
     record { next = became s Playing (s .size) (a .host); buffers = buffersOf (a .memory) (a .staging) (a .card) (b .text); said = a .said }
 
 unfoldable pub played : Session → Buffers → List ℕ → Line → Answered
-played s b line (Begin units time) = called s b (beginAfter (lentOf s b) (s .host) (b .memory) units time)
+played s b line (Begin units time) = called s b (beginAfter (lentOf s b) (s .host) (b .memory) units (time .0))
 played s b line Write = called s b (writeAfter (lentOf s b) (s .host) (writeLaid (b .memory) (field 1 line) (field 2 line)))
 played s b line (Open w) = called s b (openAfter (lentOf s b) (s .host) (openLaid (b .memory) (field 1 line) w))
 played s b line (Next handle cap) = called s b (nextAfter (lentOf s b) (s .host) (nextLaid (b .memory) handle cap))
@@ -101,8 +101,8 @@ mountAnswer s b m =
     (record { next = became s Over (s .size) (s .host); buffers = b; said = saidMount (m .code) })
 
 -- one more line of the manifest, closed by byte 10 (R4): with that, "manifest at most 65,536" bytes. Of one that is longer the lines are only counted
-unfoldable pub listed : Session → Buffers → List ℕ → Answered
-listed s b line =
+unfoldable pub manifestLine : Session → Buffers → List ℕ → Answered
+manifestLine s b line =
     cond (leb (s .size + length line) 65535)
     (record {
       next = became s Listing (s .size + length line + 1) (s .host);
@@ -121,7 +121,7 @@ refusedMount s b line =
 -- ---- a line
 
 unfoldable pub listing : Session → Buffers → List ℕ → Answered
-listing s b line = cond (isGo line) (mountAnswer s b (mounted (lentOf s b) 0)) (listed s b line)
+listing s b line = cond (isGo line) (mountAnswer s b (mounted (lentOf s b) 0)) (manifestLine s b line)
 
 unfoldable pub inPhase : Phase → Session → Buffers → List ℕ → Answered
 inPhase Listing s b line = listing s b line

@@ -9,6 +9,7 @@ ghost use Rattle.script.specs.Laying.{writeLaid, openLaid, nextLaid};
 ghost use Rattle.session.specs.Calls.{Does, beginAfter, writeAfter, openAfter, nextAfter, returnAfter};
 use crate::fates::say_fate;
 use host::Host;
+use record::VirtualTime;
 use script::Buffer;
 use script::events::put_events;
 use script::forms::Window;
@@ -29,14 +30,14 @@ pub(crate) struct Told {
 pub(crate) fn begin(
     host: Host,
     units: u64,
-    time: u64,
+    time: VirtualTime,
     memory: &mut Buffer,
     staging: &mut Buffer,
     card: &mut Buffer,
     text: &[u8],
     out: &mut Buffer,
 ) -> Told
-    ensures { λ r. ⌜ Does (beginAfter (lentAs (now (staging .entry)) (now (card .entry)) (now (text .entry))) host (now (memory .entry)) units time) (r .host) (now (memory .exit)) (now (staging .exit)) (now (card .exit)) (now (out .entry)) (now (out .exit)) (r .wrote) ⌝ }
+    ensures { λ r. ⌜ Does (beginAfter (lentAs (now (staging .entry)) (now (card .entry)) (now (text .entry))) host (now (memory .entry)) units (time .0)) (r .host) (now (memory .exit)) (now (staging .exit)) (now (card .exit)) (now (out .entry)) (now (out .exit)) (r .wrote) ⌝ }
 {
     let args = begin_args(units, time);
     let a = host.begin(staging, card, text, &args);
@@ -59,7 +60,7 @@ pub(crate) fn write(
     ensures { λ r. ⌜ Does (writeAfter (lentAs (now (staging .entry)) (now (card .entry)) (now (text .entry))) host (writeLaid (now (memory .entry)) (field 1 (now (line .entry))) (field 2 (now (line .entry))))) (r .host) (now (memory .exit)) (now (staging .exit)) (now (card .exit)) (now (out .entry)) (now (out .exit)) (r .wrote) ⌝ }
 {
     lay_write(memory, field(line, 1), field(line, 2));
-    let a = host.write(memory, staging, card, text, 8);
+    let a = writes::write::write(host, memory, staging, card, text, 8);
     let code = a.code;
     let next = a.host;
     let wrote = say_answer(out, b"write", code, a.value);
@@ -99,7 +100,7 @@ pub(crate) fn next(
     ensures { λ r. ⌜ Does (nextAfter (lentAs (now (staging .entry)) (now (card .entry)) (now (text .entry))) host (nextLaid (now (memory .entry)) handle cap)) (r .host) (now (memory .exit)) (now (staging .exit)) (now (card .exit)) (now (out .entry)) (now (out .exit)) (r .wrote) ⌝ }
 {
     lay_next(memory, handle, cap);
-    let a = host.next(memory, staging, card, text, 8);
+    let a = reads::next::next(host, memory, staging, card, text, 8);
     let code = a.code;
     let next = a.host;
     let end = say_answer(out, b"next", code, a.value);

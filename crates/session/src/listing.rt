@@ -1,13 +1,12 @@
 // Up to `go`: the manifest, and the mount.
 ghost use mathlib.Core.Path.{_≡_};
 ghost use Rattle.script.specs.Saying.{Put, saidMount};
-ghost use Rattle.session.specs.Sessions.{Answers, buffersOf, became, mountAnswer, lentOf, listed, refusedMount, listing};
+ghost use Rattle.session.specs.Sessions.{Answers, buffersOf, became, mountAnswer, lentOf, manifestLine, refusedMount, listing};
 ghost use Rattle.session.specs.declared.Phase.the-variants.{Over};
-ghost use Rattle.host.specs.Mount.{mounted};
+ghost use Rattle.mounts.specs.Mount.{mounted};
 use crate::Phase;
 use crate::Said;
 use crate::Session;
-use host::Host;
 use script::Buffer;
 use script::forms::Line;
 use script::say::say_answer;
@@ -38,7 +37,7 @@ impl Session {
     ) -> Said
         ensures { λ r. ⌜ Answers (mountAnswer self (buffersOf (now (memory .entry)) (now (staging .entry)) (now (card .entry)) (now (text .entry))) (mounted (lentOf self (buffersOf (now (memory .entry)) (now (staging .entry)) (now (card .entry)) (now (text .entry)))) 0)) (r .next) (buffersOf (now (memory .exit)) (now (staging .exit)) (now (card .exit)) (now (text .exit))) (now (out .entry)) (now (out .exit)) (r .wrote) ⌝ }
     {
-        let m = Host::mount(staging, card, le::front(text, self.size), 0);
+        let m = mounts::mount::mount(staging, card, le::front(text, self.size), 0);
         let code = m.code;
         if code.fine() {
             let host = m.host;
@@ -51,7 +50,7 @@ impl Session {
     }
 
     // One more line of the manifest.
-    fn listed(
+    fn manifest_line(
         self,
         line: &[u8],
         memory: &mut Buffer,
@@ -60,7 +59,7 @@ impl Session {
         text: &mut Buffer,
         out: &mut Buffer,
     ) -> Said
-        ensures { λ r. ⌜ Answers (listed self (buffersOf (now (memory .entry)) (now (staging .entry)) (now (card .entry)) (now (text .entry))) (now (line .entry))) (r .next) (buffersOf (now (memory .exit)) (now (staging .exit)) (now (card .exit)) (now (text .exit))) (now (out .entry)) (now (out .exit)) (r .wrote) ⌝ }
+        ensures { λ r. ⌜ Answers (manifestLine self (buffersOf (now (memory .entry)) (now (staging .entry)) (now (card .entry)) (now (text .entry))) (now (line .entry))) (r .next) (buffersOf (now (memory .exit)) (now (staging .exit)) (now (card .exit)) (now (text .exit))) (now (out .entry)) (now (out .exit)) (r .wrote) ⌝ }
     {
         let host = self.host;
         let size = self.size;
@@ -93,7 +92,7 @@ impl Session {
         if same(line, b"go") {
             return self.mount(memory, staging, card, text, out);
         }
-        self.listed(line, memory, staging, card, text, out)
+        self.manifest_line(line, memory, staging, card, text, out)
     }
 
     // A manifest that is too long.

@@ -4,8 +4,6 @@ ghost use Rattle.session.specs.Sessions.{counted, became, freshSession};
 use crate::Phase;
 use crate::Session;
 use host::Host;
-use record::EventId;
-use weave::Lengths;
 use weave::sums::added;
 
 impl Session {
@@ -13,12 +11,7 @@ impl Session {
     pub fn fresh() -> Session
         ensures { λ r. ⌜ r ≡ freshSession ⌝ }
     {
-        let none = Lengths {
-            staging: 0,
-            card: 0,
-            manifest: 0,
-        };
-        let host = Host::fresh(none, 0, EventId(0));
+        let host = Host::none();
         Session {
             phase: Phase::Listing,
             lines: 0,

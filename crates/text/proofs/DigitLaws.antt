@@ -11,8 +11,7 @@ use lib.Dec.{leb, ltb, eqb, lit<}
 use lib.ListN.{length, getD, set, length-append, List·getD-append}
 use Rattle.le.specs.Splice.{splice, wholly}
 use Rattle.le.proofs.SpliceLaws.{splice-append, splice-comm, set-splice}
-use Rattle.text.specs.declared.decimal.Number.{Number}
-use Rattle.text.specs.declared.decimal.Number.the-variants.{Is, Not}
+use Rattle.text.specs.declared.decimal.Number.the-variants.{Is}
 use Rattle.text.specs.Decimal.{digit, digits, valueFrom, noLeadingZero, numberFrom, numberOf, digitsIn, higher, decimal}
 
 pub length-digits : (k n : ℕ) → length (digitsIn k n) ≡ k

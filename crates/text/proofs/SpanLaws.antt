@@ -16,7 +16,3 @@ inside-end ptr len m e =
     let p : leb ptr m ≡ true = and-left (leb ptr m) _ e in
     let q : leb len (m - ptr) ≡ true = and-left (leb len (m - ptr)) _ (and-right (leb ptr m) _ e) in
     omega (arith, leb-true ptr m p, leb-true len (m - ptr) q)
-
-pub inside-start : (ptr len m : ℕ) → inside ptr len m ≡ true → ptr ≤ m
-unfolding inside
-inside-start ptr len m e = leb-true ptr m (and-left (leb ptr m) _ e)

@@ -58,16 +58,6 @@ some-fine m p h = go (valueFault m p) h
     go Outside k = absurd (k refl)
     go Unfit k = absurd (k refl)
 
--- a payload is no longer than memory and 32 bytes
-pub payload-most : (m : List ℕ) (p : ℕ) → length (payload m p) ≤ 32 + length m
-unfolding payload
-payload-most m p = go (valueFault m p) refl
-  where
-    go : (f : Fault) → valueFault m p ≡ f → length (cond (isFine f) (formOf m (cellAt m p)) []) ≤ 32 + length m
-    go Fine e = let r = ready m p e in omega (arith, form-long m (cellAt m p) (r .fine), content-end m (decoded (cellAt m p)) (r .fine))
-    go Outside e = omega arith
-    go Unfit e = omega arith
-
 -- ---- the check: f is the fault that was found, b whether it is `Fine`
 
 module _ (m : List ℕ) (v : Value) (f : Fault) (b : Bool) (e : f ≡ faultOf m v) (q : b ≡ isFine f) where

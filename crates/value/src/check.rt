@@ -66,7 +66,7 @@ pub(crate) fn check_decoded(m: &[u8], v: Value) -> Checked
         let s = crate::decode::content_span(v);
         return Checked {
             fault: f,
-            len: 32 + s.len,
+            len: Value::SIZE + s.len,
         };
     }
     Checked { fault: f, len: 0 }
@@ -77,7 +77,7 @@ pub fn check_value(m: &[u8], p: u64) -> Checked
     ensures { λ r. ⌜ r ≡ checkedValue (now (m .entry)) p ⌝ }
 {
     let size = m.len() as u64;
-    if text::span::inside(p, 32, size) {
+    if text::span::inside(p, Value::SIZE, size) {
         let v = crate::decode::read_value(m, p as usize);
         check_decoded(m, v)
     } else {

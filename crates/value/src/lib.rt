@@ -9,6 +9,7 @@ pub mod scalar;
 pub mod shown;
 pub mod store;
 
+use cell::Cell;
 use scalar::Scalar;
 
 // A run of bytes in a memory.
@@ -23,6 +24,11 @@ pub enum Value {
     Text(Span),
     Array(Span),
     Wrong,
+}
+
+impl Value {
+    // 01: "write's len is 32"; a string's or byte array's own bytes are stored right behind.
+    pub const SIZE: u64 = Cell::SIZE as u64;
 }
 
 // What a check finds: nothing, a span outside memory (-5), or a type or content that may not be (-7).

@@ -3,6 +3,7 @@ ghost use mathlib.Core.Path.{_≡_};
 ghost use Prim.Native.Nat.{_+_, _<_, _≤_, _^_};
 ghost use lib.ListN.{length};
 ghost use Rattle.value.specs.Shown.{shownAt};
+use crate::Value;
 
 // The payload at `at` of a buffer, as a module sees it at address `address`. Both bounds hold of any record that fits an out buffer inside memory.
 pub fn show_value(buf: &mut [u8], at: usize, address: u64)
@@ -12,6 +13,6 @@ pub fn show_value(buf: &mut [u8], at: usize, address: u64)
 {
     let t = le::read_u32(buf, at);
     if (t == 5) | (t == 9) {
-        le::put_u64(buf, at + 8, address + 32);
+        le::put_u64(buf, at + 8, address + Value::SIZE);
     }
 }

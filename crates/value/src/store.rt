@@ -18,13 +18,13 @@ pub(crate) fn stored_cell(flags: u32, v: Value) -> Cell
         Value::Text(s) => Cell {
             kind: 5,
             flags: flags,
-            first: 32, // not the effect's own pointer
+            first: Value::SIZE, // not the effect's own pointer
             second: s.len,
         },
         Value::Array(s) => Cell {
             kind: 9,
             flags: flags,
-            first: 32,
+            first: Value::SIZE,
             second: s.len,
         },
         Value::Wrong => Cell {
@@ -49,7 +49,7 @@ pub fn put_value(m: &[u8], p: u64, out: &mut [u8], at: usize)
     let s = crate::decode::content_span(v);
     let a = s.ptr as usize;
     let n = s.len as usize;
-    le::copy_part(m, a, n, out, at + 32);
+    le::copy_part(m, a, n, out, at + Cell::SIZE);
 }
 
 // The payload of any value at any address: nothing where it has a fault, and nothing where it does not fit.

@@ -12,7 +12,7 @@ use mir.Syntax.{w64}
 use mir.Val.{SFits, ofZ, toZ}
 use mir.Facts.{toZ-ofZ}
 use Rattle.weave.specs.declared.Code.{Code}
-use Rattle.weave.specs.declared.Code.the-variants.{Fine, Denied, NotNow, Unsound, NoRoom, Bad, Budget, BadValue}
+use Rattle.weave.specs.declared.Code.the-variants.{Fine, Bad}
 use Rattle.weave.specs.Codes.{isFine, first, firstOf, need, reasonOf}
 
 -- where no check of a list finds fault, each of them finds none

@@ -8,7 +8,7 @@ use Rattle.weave.specs.declared.Code.the-variants.{NotNow, Budget}
 use Rattle.weave.specs.declared.Lengths.{Lengths}
 use Rattle.weave.specs.declared.Weave.{Weave}
 use Rattle.weave.specs.Codes.{need, first, spoiledCode}
-use Rattle.weave.specs.Table.{hasHandle, placeOf}
+use Rattle.weave.specs.Table.{hasHandle, slotPlace}
 
 -- "other lent lengths that differ from those at mount"
 unfoldable pub sameLengths : Lengths → Lengths → Bool
@@ -37,11 +37,11 @@ runningCheck w = first (need (w .running) NotNow) (spoiledCode (w .spoiled))
 
 -- check 9: "handle not open"
 unfoldable pub handleFine : Weave → ℕ → Bool
-handleFine w k = ltb 0 k && ltb (placeOf (hasHandle k) (w .slots)) 4
+handleFine w k = ltb 0 k && ltb (slotPlace (hasHandle k) (w .slots)) 4
 
 -- check 9: "4 are open or 65,535 have been opened"
 unfoldable pub slotFine : Weave → Bool
-slotFine w = ltb (placeOf (hasHandle 0) (w .slots)) 4 && ltb (w .opened) 65535
+slotFine w = ltb (slotPlace (hasHandle 0) (w .slots)) 4 && ltb (w .opened) 65535
 
 -- check 10: "If units + charge > res_max the call is -6"
 unfoldable pub budgetCheck : Weave → ℕ → Code

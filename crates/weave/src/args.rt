@@ -2,10 +2,11 @@
 ghost use mathlib.Core.Path.{_≡_};
 ghost use Prim.Native.Nat.{_+_, _≤_};
 ghost use lib.ListN.{length};
-ghost use Rattle.weave.specs.Args.{recordFine, fieldAt, writeArgs, readArgs, openArgs, nextArgs, bytesAt, topicFine, filterFine, outFine, payloadFine, filterBytes};
+ghost use Rattle.weave.specs.Args.{recordFine, fieldAt, writeArgs, readArgs, openArgs, nextArgs, closeHandle, bytesAt, topicFine, filterFine, outFine, payloadFine, filterBytes};
 use record::EventId;
 use text::limits::Limits;
 use value::Span;
+use value::Value;
 
 pub struct WriteArgs {
     pub topic: Span,
@@ -80,12 +81,12 @@ impl WriteArgs {
     {
         WriteArgs {
             topic: Span {
-                ptr: field(m, a, 40, 0),
-                len: field(m, a, 40, 8),
+                ptr: field(m, a, WriteArgs::SIZE, 0),
+                len: field(m, a, WriteArgs::SIZE, 8),
             },
-            place: field(m, a, 40, 16),
-            len: field(m, a, 40, 24),
-            flags: field_u32(m, a, 40, 32),
+            place: field(m, a, WriteArgs::SIZE, 16),
+            len: field(m, a, WriteArgs::SIZE, 24),
+            flags: field_u32(m, a, WriteArgs::SIZE, 32),
         }
     }
 }
@@ -98,13 +99,13 @@ impl ReadArgs {
     {
         ReadArgs {
             topic: Span {
-                ptr: field(m, a, 40, 0),
-                len: field(m, a, 40, 8),
+                ptr: field(m, a, ReadArgs::SIZE, 0),
+                len: field(m, a, ReadArgs::SIZE, 8),
             },
-            start: EventId(field(m, a, 40, 16)),
+            start: EventId(field(m, a, ReadArgs::SIZE, 16)),
             out: Span {
-                ptr: field(m, a, 40, 24),
-                len: field(m, a, 40, 32),
+                ptr: field(m, a, ReadArgs::SIZE, 24),
+                len: field(m, a, ReadArgs::SIZE, 32),
             },
         }
     }
@@ -118,13 +119,13 @@ impl OpenArgs {
     {
         OpenArgs {
             topic: Span {
-                ptr: field(m, a, 48, 0),
-                len: field(m, a, 48, 8),
+                ptr: field(m, a, OpenArgs::SIZE, 0),
+                len: field(m, a, OpenArgs::SIZE, 8),
             },
-            from: EventId(field(m, a, 48, 16)),
-            to: EventId(field(m, a, 48, 24)),
-            limit: field(m, a, 48, 32),
-            desc: field_u8(m, a, 48, 40),
+            from: EventId(field(m, a, OpenArgs::SIZE, 16)),
+            to: EventId(field(m, a, OpenArgs::SIZE, 24)),
+            limit: field(m, a, OpenArgs::SIZE, 32),
+            desc: field_u8(m, a, OpenArgs::SIZE, 40),
         }
     }
 }
@@ -136,20 +137,26 @@ impl NextArgs {
         ensures { λ r. ⌜ r ≡ nextArgs (now (m .entry)) a ⌝ }
     {
         NextArgs {
-            handle: field(m, a, 24, 0),
+            handle: field(m, a, NextArgs::SIZE, 0),
             out: Span {
-                ptr: field(m, a, 24, 8),
-                len: field(m, a, 24, 16),
+                ptr: field(m, a, NextArgs::SIZE, 8),
+                len: field(m, a, NextArgs::SIZE, 16),
             },
         }
     }
 }
 
 // tl_close has a handle alone.
-pub fn close_handle(m: &[u8], a: u64) -> u64
-    ensures { λ r. ⌜ r ≡ fieldAt 8 (now (m .entry)) a 8 0 ⌝ }
-{
-    field(m, a, 8, 0)
+pub struct CloseArgs {}
+
+impl CloseArgs {
+    pub const SIZE: u64 = 8;
+
+    pub fn handle(m: &[u8], a: u64) -> u64
+        ensures { λ r. ⌜ r ≡ closeHandle (now (m .entry)) a ⌝ }
+    {
+        field(m, a, CloseArgs::SIZE, 0)
+    }
 }
 
 // The bytes of a span, as many of them as there are.
@@ -187,19 +194,18 @@ pub fn payload_fine(m: &[u8], w: WriteArgs) -> bool
     ensures { λ r. ⌜ r ≡ payloadFine (now (m .entry)) w ⌝ }
 {
     let size = m.len() as u64;
-    let value = (w.flags == 2) | (w.flags == 10);
-    if value {
-        let span = text::span::inside(w.place, 32, size);
-        return (w.place % 8 == 0) & (span & (w.len == 32));
+    if text::flags::is_value(w.flags) {
+        let span = text::span::inside(w.place, Value::SIZE, size);
+        return (w.place % 8 == 0) & (span & (w.len == Value::SIZE));
     }
     text::span::inside(w.place, w.len, size)
 }
 
 // A filter as a cursor keeps it.
-pub fn filter_bytes(m: &[u8], s: Span) -> [u8; 64]
+pub fn filter_bytes(m: &[u8], s: Span) -> [u8; Limits::FILTER]
     ensures { λ r. ⌜ r ≡ filterBytes (now (m .entry)) s ⌝ }
 {
-    let mut kept = [0u8; 64];
+    let mut kept = [0u8; Limits::FILTER];
     le::copy_at(le::front(bytes_at(m, s), Limits::FILTER), &mut kept, 0);
     kept
 }

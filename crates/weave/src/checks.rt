@@ -23,7 +23,7 @@ impl Lengths {
 fn numbers_fine(next: EventId, count: u64) -> bool
     ensures { λ r. ⌜ r ≡ numbersFine (next .0) count ⌝ }
 {
-    (1 <= next.0) & within(next.0, count, 0x8000_0000_0000_0000)
+    (1 <= next.0) & within(next.0, count, EventId::BEYOND)
 }
 
 impl Weave {

@@ -8,6 +8,7 @@ pub mod sums;
 pub mod table;
 
 use card::Cursor;
+use record::Header;
 use record::VirtualTime;
 
 // 01's codes; Fine where a check finds nothing wrong.
@@ -56,7 +57,7 @@ pub struct Weave {
     pub units: u64,
     pub resmax: u64,
     pub time: VirtualTime,
-    pub trace: [u8; 32],
+    pub trace: [u8; Header::TRACE_SIZE],
     pub opened: u64,
-    pub slots: [Slot; 4],
+    pub slots: [Slot; Cursor::OPEN],
 }

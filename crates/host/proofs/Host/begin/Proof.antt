@@ -1,14 +1,13 @@
 -- `host::Host::begin` meets its contract. Assumes nothing.
 use mathlib.Core.Path.{_∙_}
-use Rattle.manifest.proofs.PlacesLaws.{held-good, held-modules}
-use Rattle.host.specs.Hosts.{lentCheck}
+use Rattle.host.specs.Hosts.{lentEntry}
 use Rattle.host.specs.Begin.{beginCheck, beginAnswer, beginStaging}
 use borrow.Author.Needs.{needs}
 use Rattle.host.proofs.Host.begin.Statement.{statement}
 use Rattle.host.proofs.Host.begin.Tie as tie
 
 returns : tie.Need-returns
-unfolding beginAnswer beginStaging beginCheck lentCheck
+unfolding beginAnswer beginStaging beginCheck lentEntry
 returns c =
     let c₁ = c .before .before .before in
     let c₂ = c₁ .before .before in
@@ -21,16 +20,12 @@ returns c =
     let c₉ = c₈ .before in
     let c₁₀ = c₉ .before .before in
     let c₁₁ = c₁₀ .before .before in
-    let c₁₂ = c₁₁ .before in
-    let c₁₃ = c₁₂ .before .before .before in
-    (simp (c .settle .ensures, c₃ .with-weave .ensures, c₄ .begun .ensures, c₅ .then3 .ensures, c₆ .then2 .ensures, c₇ .then .ensures, c₁₀ .need .ensures, c₉ .need2 .ensures, c₈ .need3 .ensures, c₁₁ .lent-check .ensures, c₁₂ .lengths-of .ensures, held-good _ _ (c₁₃ .read .ensures), held-modules _ _ (c₁₃ .read .ensures)), c₁ .clear-if .ensures ∙ simp (c₂ .fine .ensures, c₅ .then3 .ensures, c₆ .then2 .ensures, c₇ .then .ensures, c₁₀ .need .ensures, c₉ .need2 .ensures, c₈ .need3 .ensures, c₁₁ .lent-check .ensures, c₁₂ .lengths-of .ensures, held-good _ _ (c₁₃ .read .ensures), held-modules _ _ (c₁₃ .read .ensures)))
+    (simp (c .settle .ensures, c₃ .with-weave .ensures, c₄ .begun .ensures, c₅ .then3 .ensures, c₆ .then2 .ensures, c₇ .then .ensures, c₁₀ .need .ensures, c₉ .need2 .ensures, c₈ .need3 .ensures, c₁₁ .enter .ensures), c₁ .clear-if .ensures ∙ simp (c₂ .fine .ensures, c₅ .then3 .ensures, c₆ .then2 .ensures, c₇ .then .ensures, c₁₀ .need .ensures, c₉ .need2 .ensures, c₈ .need3 .ensures, c₁₁ .enter .ensures))
 
 pub begin-spec : {M : Type 1} → statement M
 begin-spec =
     tie.close
     (tie.spec
-    (λ c κs. search needs)
-    (λ c κs. search needs)
     (λ c κs. search needs)
     (λ c κs. search needs)
     (λ c κs. search needs)

@@ -6,7 +6,7 @@ use Rattle.session.proofs.Session.fresh.Tie as tie
 
 returns : tie.Need-returns
 unfolding freshSession
-returns c = simp (c .fresh .ensures)
+returns c = simp (c .none .ensures)
 
 pub fresh-spec : {M : Type 1} → statement M
 fresh-spec = tie.close (tie.spec (λ c κs. search needs) returns)

@@ -11,7 +11,7 @@ returns c = simp (← c .before .before .before .before .before .before .before 
 
 returns-2 : tie.Need-returns-2
 unfolding listing goWord
-returns-2 c = simp (← c .before .before .before .before .before .before .before .same .ensures, c .before .before .before .before .before .before .if1 .left) (c .listed .ensures)
+returns-2 c = simp (← c .before .before .before .before .before .before .before .same .ensures, c .before .before .before .before .before .before .if1 .left) (c .manifest-line .ensures)
 
 pub listing-spec : {M : Type 1} → statement M
 listing-spec =

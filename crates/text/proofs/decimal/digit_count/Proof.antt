@@ -1,5 +1,5 @@
 -- `text::decimal::digit_count` meets its contract: the digits counted, and those that `rest` still has. Assumes nothing.
-use mathlib.Core.Path.{_≡_, refl}
+use mathlib.Core.Path.{_≡_}
 use Prim.Native.Nat.{_+_, _≤_, _-_}
 use native.Mathlib.Omega.{arith}
 use Rattle.text.specs.Decimal.{higher}

@@ -1,6 +1,6 @@
 -- `text::decimal::put_digits` meets its contract: what is left to write, written over what there is, gives the result. Assumes nothing.
 use mathlib.Core.Path.{_≡_, refl}
-use Prim.Native.Nat.{_+_, _≤_, _-_}
+use Prim.Native.Nat.{_≤_, _-_}
 use native.Mathlib.Omega.{arith}
 use lib.ListN.{length, length-set}
 use Rattle.le.specs.Splice.{splice}
