@@ -7,24 +7,24 @@ use Rattle.weave.specs.declared.Mark.{Mark}
 use Rattle.weave.specs.declared.Spoiled.{Spoiled}
 use Rattle.weave.specs.declared.Spoiled.the-variants.{Not, Overspent, Panicked}
 use Rattle.weave.specs.declared.Slot.{Slot}
-use Rattle.weave.specs.Codes.{number, reasonOf, reasonFor}
+use Rattle.weave.specs.Codes.{number, reasonFor}
 use Rattle.host.specs.declared.Host.{Host}
-use Rattle.embed.specs.Crossing.{flag, said, markOf, spoiledBy, markSaid, roomOf, slotSaid, roomsOf, slotsSaid, stateOf, weaveSaid, hostSaid}
+use Rattle.embed.specs.Crossing.{flag, said, markOf, markSaid, roomOf, slotSaid, roomsOf, slotsSaid, stateOf, weaveSaid, hostSaid}
 
 pub flag-back : (t : Bool) → said (flag t) ≡ t
 unfolding said flag
 flag-back true = refl
 flag-back false = refl
 
-reason-back : (s : Spoiled) → spoiledBy (reasonOf (number (reasonFor s))) ≡ s
-unfolding reasonOf
+reason-back : (s : Spoiled) → markSaid (number (reasonFor s)) ≡ record { 0 = s }
+unfolding markSaid
 reason-back Not = refl
 reason-back Overspent = refl
 reason-back Panicked = refl
 
 pub mark-back : (m : Mark) → markSaid (markOf m) ≡ m
-unfolding markSaid markOf
-mark-back m = simp (reason-back)
+unfolding markOf
+mark-back m = reason-back (m .0)
 
 pub slot-back : (s : Slot) → slotSaid (roomOf s) ≡ s
 unfolding slotSaid roomOf

@@ -4,12 +4,9 @@ use mathlib.Core.Bool.{Bool, not, cond}
 use mathlib.Core.List.{List, map}
 use Prim.Native.Nat.{ℕ}
 use lib.Dec.{eqb}
-use lib.IntN.{ℤ}
-use Rattle.weave.specs.declared.Code.{Code}
-use Rattle.weave.specs.declared.Code.the-variants.{Fine, Denied, NotNow, Unsound, NoRoom, Bad, Budget, BadValue}
-use Rattle.weave.specs.Codes.{number, reasonOf, spoiledCode}
+use lib.IntN.{ℤ, pos, negsuc}
+use Rattle.weave.specs.Codes.{number, spoiledCode}
 use Rattle.weave.specs.declared.Mark.{Mark}
-use Rattle.weave.specs.declared.Spoiled.{Spoiled}
 use Rattle.weave.specs.declared.Spoiled.the-variants.{Not, Overspent, Panicked}
 use Rattle.weave.specs.declared.Slot.{Slot}
 use Rattle.weave.specs.declared.Weave.{Weave}
@@ -28,19 +25,10 @@ said n = not (eqb n 0)
 unfoldable pub markOf : Mark → ℤ
 markOf m = number (spoiledCode m)
 
--- a number that is no reason is taken as a panic
-abbrev pub spoiledBy : Code → Spoiled
-spoiledBy Fine = Not
-spoiledBy Denied = Panicked
-spoiledBy NotNow = Panicked
-spoiledBy Unsound = Panicked
-spoiledBy NoRoom = Panicked
-spoiledBy Bad = Panicked
-spoiledBy Budget = Overspent
-spoiledBy BadValue = Panicked
-
+-- 0 and -6 say what they are; any other number is no reason, and is taken as a panic
 unfoldable pub markSaid : ℤ → Mark
-markSaid n = record { 0 = spoiledBy (reasonOf n) }
+markSaid (pos n) = record { 0 = cond (eqb n 0) Not Panicked }
+markSaid (negsuc n) = record { 0 = cond (eqb n 5) Overspent Panicked }
 
 unfoldable pub roomOf : Slot → Room
 roomOf s =

@@ -1,10 +1,9 @@
 // How the state crosses: each field as a number.
 ghost use mathlib.Core.Path.{_≡_};
-ghost use Rattle.embed.specs.Crossing.{flag, said, markOf, spoiledBy, markSaid, roomOf, slotSaid, roomsOf, slotsSaid};
+ghost use Rattle.embed.specs.Crossing.{flag, said, markOf, markSaid, roomOf, slotSaid, roomsOf, slotsSaid};
 use crate::Room;
 use card::Cursor;
 use record::EventId;
-use weave::Code;
 use weave::Mark;
 use weave::Slot;
 use weave::Spoiled;
@@ -30,26 +29,16 @@ pub(crate) fn mark_of(m: Mark) -> i64
 }
 
 // (A number that is no reason is taken as a panic: nothing more is accepted.)
-fn spoiled_by(c: Code) -> Spoiled
-    ensures { λ r. ⌜ r ≡ spoiledBy c ⌝ }
-{
-    match c {
-        Code::Fine => Spoiled::Not,
-        Code::Denied => Spoiled::Panicked,
-        Code::NotNow => Spoiled::Panicked,
-        Code::Unsound => Spoiled::Panicked,
-        Code::NoRoom => Spoiled::Panicked,
-        Code::Bad => Spoiled::Panicked,
-        Code::Budget => Spoiled::Overspent,
-        Code::BadValue => Spoiled::Panicked,
-    }
-}
-
 pub(crate) fn mark_said(n: i64) -> Mark
     ensures { λ r. ⌜ r ≡ markSaid n ⌝ }
 {
-    let c = Code::reason(n);
-    Mark(spoiled_by(c))
+    if n == 0 {
+        return Mark(Spoiled::Not);
+    }
+    if n == -6 {
+        return Mark(Spoiled::Overspent);
+    }
+    Mark(Spoiled::Panicked)
 }
 
 fn room_of(s: Slot) -> Room
