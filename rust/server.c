@@ -149,6 +149,14 @@ static void call(void) {
     put_changes();
 }
 
+static fenced *buffer(void) {
+    uint64_t which = number();
+    if (which >= BUFFERS) {
+        quit("no such buffer");
+    }
+    return &lent[which];
+}
+
 static void question(uint64_t asked) {
     fenced *f;
     size_t at;
@@ -156,19 +164,22 @@ static void question(uint64_t asked) {
     switch (asked) {
     case ASK_SIZE: put_number(loafheron_state_size()); break;
     case ASK_LEND:
-        f = &lent[number() % BUFFERS];
+        f = buffer();
         lend(f, number());
         keep_copy(f);
         return;
     case ASK_POKE:
-        f = &lent[number() % BUFFERS];
+        f = buffer();
         at = number();
         n = number();
+        if (at > f->len || n > f->len - at) {
+            quit("not inside the buffer");
+        }
         get(start(f) + at, n);
         memcpy(f->copy + at, start(f) + at, n);
         return;
     case ASK_CALL: call(); break;
-    case ASK_STEP_OVER: put_number(*(volatile uint8_t *)lent[number() % BUFFERS].end); break;
+    case ASK_STEP_OVER: put_number(*(volatile uint8_t *)buffer()->end); break;
     default: quit("no such question");
     }
     fflush(stdout);
