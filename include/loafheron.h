@@ -1,6 +1,6 @@
 /* Loafheron: the proved host of a looper box, for C.
  *
- * Link target/staticlib/libembed.a, which `rt staticlib embed` makes. Every function is proved to answer just what the
+ * Link target/staticlib/libloafheron.a, which `rt staticlib loafheron` makes. Every function is proved to answer just what the
  * requirements (document 01) say, for every state and every byte that it is lent.
  *
  * A STATE goes in by value and comes out by value, beside the answer. Begin with loafheron_mount, keep the state that

@@ -1,4 +1,4 @@
-//! The whole host, by the archive of the crate `embed`, against the same operations in plain Rust.
+//! The whole host, by the archive of the crate `loafheron`, against the same operations in plain Rust.
 use crate::buffers::{card, put, weave_args};
 use crate::clock::{alone, row};
 use crate::plain::Plain;
