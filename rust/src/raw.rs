@@ -35,6 +35,7 @@ pub struct State {
     pub rooms: [Room; 4],
 }
 
+#[must_use]
 #[repr(C)]
 #[derive(Clone, Copy, Debug, PartialEq, Eq)]
 pub struct Mounted {
@@ -43,6 +44,7 @@ pub struct Mounted {
     pub state: State,
 }
 
+#[must_use]
 #[repr(C)]
 #[derive(Clone, Copy, Debug, PartialEq, Eq)]
 pub struct Answer {
@@ -51,6 +53,7 @@ pub struct Answer {
     pub state: State,
 }
 
+#[must_use]
 #[repr(C)]
 #[derive(Clone, Copy, Debug, PartialEq, Eq)]
 pub struct Outcome {
@@ -60,6 +63,7 @@ pub struct Outcome {
     pub bytes: u64,
 }
 
+#[must_use]
 #[repr(C)]
 #[derive(Clone, Copy, Debug, PartialEq, Eq)]
 pub struct Returned {
@@ -67,6 +71,7 @@ pub struct Returned {
     pub state: State,
 }
 
+#[must_use]
 #[repr(C)]
 #[derive(Clone, Copy, Debug, PartialEq, Eq)]
 pub struct Place {

@@ -10,16 +10,22 @@ use std::time::Instant;
 const CALLS: u64 = 200_000;
 const SEED: u64 = 1;
 
-fn number(args: &[String], flag: &str) -> Option<u64> {
+/// Takes a flag and its number out of the arguments.
+fn number(args: &mut Vec<String>, flag: &str) -> Option<u64> {
     let at = args.iter().position(|a| a == flag)?;
     let said = args.get(at + 1).and_then(|n| n.replace(['_', ','], "").parse().ok());
+    args.drain(at..args.len().min(at + 2));
     Some(said.unwrap_or_else(|| panic!("{flag} wants a number")))
 }
 
 fn main() -> ExitCode {
-    let args: Vec<String> = std::env::args().skip(1).collect();
+    let args = &mut std::env::args().skip(1).collect::<Vec<String>>();
+    let (life, calls, seed) = (number(args, "--life"), number(args, "--calls"), number(args, "--seed"));
     let way = if args.iter().any(|a| a == "--piped") { Way::Piped } else { Way::Here };
-    if let Some(life) = number(&args, "--life") {
+    if let Some(unknown) = args.iter().find(|a| *a != "--piped") {
+        panic!("{unknown}: not an argument of this program");
+    }
+    if let Some(life) = life {
         return match differ::live_aloud(way, life) {
             Ok(calls) => {
                 println!("life {life}: {calls} calls, no difference");
@@ -31,8 +37,7 @@ fn main() -> ExitCode {
             }
         };
     }
-    let calls = number(&args, "--calls").unwrap_or(CALLS);
-    let seed = number(&args, "--seed").unwrap_or(SEED);
+    let (calls, seed) = (calls.unwrap_or(CALLS), seed.unwrap_or(SEED));
     let start = Instant::now();
     let run = differ::run(way, seed, calls);
     if let Some((life, difference)) = run.failed {
