@@ -93,7 +93,8 @@ pub fn states(d: &mut Dice, twin: &mut Twin) -> Agreed<()> {
             try_it(d, twin, &h, state)?;
         }
     }
-    for spoiled in MARKS {
+    // twice, as a look-up hands no state back
+    for spoiled in MARKS.into_iter().chain(MARKS) {
         let mut state = somewhere(d, twin, &h)?;
         (state.running, state.spoiled) = (1 + d.below(2), spoiled);
         try_it(d, twin, &h, state)?;
