@@ -13,7 +13,7 @@
  *   manifest  at most 65,536 bytes: how many modules there are, and what each may write, read and list
  * Staging, card and manifest have the same lengths at every call as at mount; other lengths are refused with -5. A buffer
  * that is lent as `const` is not changed. Two buffers of one call must not overlap, and no pointer may be null, not even
- * with a length of 0: these two rules are C's, and the only ones that the host cannot look at.
+ * with a length of 0: these two rules are C's, and the host cannot look at them. Where they are kept, every call is answered.
  *
  * ADDRESSES in a module's memory (`at`, and all inside argument records) are plain numbers that the host tests itself: a
  * wrong one is answered with -5.
