@@ -1,6 +1,6 @@
 /* Loafheron: the proved host of a looper box, for C.
  *
- * Link target/staticlib/libembed.a, which `rt staticlib embed` makes. Every function is proved to answer just what the
+ * Link target/staticlib/libloafheron.a, which `rt staticlib loafheron` makes. Every function is proved to answer just what the
  * requirements (document 01) say, for every state and every byte that it is lent.
  *
  * A STATE goes in by value and comes out by value, beside the answer. Begin with loafheron_mount, keep the state that
@@ -13,12 +13,19 @@
  *   manifest  at most 65,536 bytes: how many modules there are, and what each may write, read and list
  * Staging, card and manifest have the same lengths at every call as at mount; other lengths are refused with -5. A buffer
  * that is lent as `const` is not changed. Two buffers of one call must not overlap, and no pointer may be null, not even
- * with a length of 0: these two rules are C's, and the only ones that the host cannot look at.
+ * with a length of 0: these two rules are C's, and the host cannot look at them. Where they are kept, every call is answered.
  *
  * ADDRESSES in a module's memory (`at`, and all inside argument records) are plain numbers that the host tests itself: a
  * wrong one is answered with -5.
  *
  * A REFUSAL leaves every lent byte and the state as before, with one exception: the first -6 marks the weave spoiled.
+ *
+ * WHAT THE PROMISES BUILD ON. What a function answers, and what it leaves in each lent byte, is proved for every state and
+ * every byte, whoever made them. Promises 2 and 3 (docs/PROMISES.md: what an outcome means, and that what was committed can be
+ * had again, whole and in order) speak of a box over its whole life, and of one in which nobody but these functions changes the
+ * card, the staging, the manifest or the state, and in which each state is used once, the last one: the one that the call before
+ * handed back. C keeps nobody from an older state or another card. Then each answer is still the right one for what it was
+ * given, but it is another box's.
  */
 #ifndef LOAFHERON_H
 #define LOAFHERON_H
@@ -31,6 +38,17 @@
 extern "C" {
 #else
 #define LOAFHERON_ASSERT _Static_assert
+#endif
+
+/* A compiler warns whoever drops an answer: that a take was discarded is said there and nowhere else. C++17, C23, gcc, clang. */
+#if defined(__cplusplus) && __cplusplus >= 201703L
+#define LOAFHERON_KEEP [[nodiscard]]
+#elif !defined(__cplusplus) && defined(__STDC_VERSION__) && __STDC_VERSION__ > 201710L
+#define LOAFHERON_KEEP [[nodiscard]]
+#elif defined(__GNUC__)
+#define LOAFHERON_KEEP __attribute__((warn_unused_result))
+#else
+#define LOAFHERON_KEEP
 #endif
 
 /* The codes of document 01; 0 is given where nothing is wrong. */
@@ -55,7 +73,9 @@ typedef struct {
     uint8_t filter[64];
 } loafheron_room;
 
-/* What the box knows between two calls. A flag is 0 or 1. No call needs a field to be looked at. */
+/* What the box knows between two calls. No call needs a field to be looked at. A flag (`faulted`, `running`, `late`, and `desc`
+ * of a room) comes back as 0 or 1, the mark `spoiled` as 0, -6 or -1. Going in, a flag that is not 0 says yes, and a mark that
+ * is none of the three says -1: after a panic nothing more is accepted. */
 typedef struct {
     uint64_t staging_len; /* the lengths at mount */
     uint64_t card_len;
@@ -115,7 +135,7 @@ typedef struct {
     uint64_t len;
 } loafheron_place;
 
-/* No struct has padding, and these are the sizes that the archive was built with (loafheron_state_size says its own). */
+/* No struct has padding, so these sizes follow from the fields above. */
 #define LOAFHERON_STATE_SIZE 608
 LOAFHERON_ASSERT(sizeof(size_t) == 8, "Loafheron is for 64-bit machines");
 LOAFHERON_ASSERT(sizeof(loafheron_room) == 112, "loafheron_room");
@@ -128,22 +148,28 @@ LOAFHERON_ASSERT(sizeof(loafheron_outcome) == 32, "loafheron_outcome");
 LOAFHERON_ASSERT(sizeof(loafheron_returned) == 640, "loafheron_returned");
 LOAFHERON_ASSERT(sizeof(loafheron_place) == 24, "loafheron_place");
 
-/* The bytes of a state in the archive: LOAFHERON_STATE_SIZE, or header and archive do not belong together. */
+/* The number that stands for the bytes of a state in the archive's source: LOAFHERON_STATE_SIZE, or header and archive do not
+ * belong together. It is written there by hand, as Rattle cannot count the bytes of a struct. That the archive's structs have
+ * the sizes above is measured, by tests/sizes: what each function writes as its answer, and whether it finds what lies behind a
+ * state. */
 uint64_t loafheron_state_size(void);
 
 /* Mount. Lent: staging, card, manifest; `used` bytes of the card are records. Changes no byte.
  * -5: sizes, used length or manifest. -3: a record is not sound, and `at` is its offset. */
+LOAFHERON_KEEP
 loafheron_mounted loafheron_mount(const uint8_t *staging, size_t staging_len, const uint8_t *card, size_t card_len,
                                   const uint8_t *manifest, size_t manifest_len, uint64_t used);
 
 /* Begin a weave. `args`: the 128 bytes of FilamentWeaveArgs; used are res_max at 24, virt_time at 48, trace at 56.
  * Answers 0: staging is all 0, module 1 has its turn. -5, -2 (a weave is running), -1 (faulted): nothing changes. */
+LOAFHERON_KEEP
 loafheron_answer loafheron_begin(loafheron_state state, uint8_t *staging, size_t staging_len, const uint8_t *card,
                                  size_t card_len, const uint8_t *manifest, size_t manifest_len, const uint8_t *args,
                                  size_t args_len);
 
 /* Ingress: the box itself stages an event, before the first accepted module call or return of the weave.
  * Answers 0. No grant, no charge. -5, -2 (no weave, or too late), -4. */
+LOAFHERON_KEEP
 loafheron_answer loafheron_ingress(loafheron_state state, uint8_t *staging, size_t staging_len, const uint8_t *card,
                                    size_t card_len, const uint8_t *manifest, size_t manifest_len, const uint8_t *topic,
                                    size_t topic_len, const uint8_t *payload, size_t payload_len);
@@ -153,28 +179,33 @@ loafheron_answer loafheron_ingress(loafheron_state state, uint8_t *staging, size
 
 /* filament_write, 40 bytes: answers 0 and stages one record (it is saved only if the weave is committed). A write to
  * filament/core/panic answers 0, stages nothing, and spoils the weave. -5, -2, -6 or -1, -7, -4. */
+LOAFHERON_KEEP
 loafheron_answer loafheron_write(loafheron_state state, const uint8_t *memory, size_t memory_len, uint8_t *staging,
                                  size_t staging_len, const uint8_t *card, size_t card_len, const uint8_t *manifest,
                                  size_t manifest_len, uint64_t at);
 
 /* filament_read, 40 bytes: the staged events with exactly that topic, as many whole records as fit. Answers the bytes
  * written to memory, 0 when none is left. -4: the out buffer is shorter than the next record. -3: staged part not sound. */
+LOAFHERON_KEEP
 loafheron_answer loafheron_read(loafheron_state state, uint8_t *memory, size_t memory_len, const uint8_t *staging,
                                 size_t staging_len, const uint8_t *card, size_t card_len, const uint8_t *manifest,
                                 size_t manifest_len, uint64_t at);
 
 /* filament_tl_open, 48 bytes: answers the handle. -4: 4 are open, or 65,535 have been opened. */
+LOAFHERON_KEEP
 loafheron_answer loafheron_open(loafheron_state state, const uint8_t *memory, size_t memory_len, const uint8_t *staging,
                                 size_t staging_len, const uint8_t *card, size_t card_len, const uint8_t *manifest,
                                 size_t manifest_len, uint64_t at);
 
 /* filament_tl_next, 24 bytes: the longest run of remaining records that fits whole. Answers the bytes written to memory,
  * 0 at the end of the list. -2: handle not open. -3: card not sound. -4: the out buffer is shorter than the next record. */
+LOAFHERON_KEEP
 loafheron_answer loafheron_next(loafheron_state state, uint8_t *memory, size_t memory_len, const uint8_t *staging,
                                 size_t staging_len, const uint8_t *card, size_t card_len, const uint8_t *manifest,
                                 size_t manifest_len, uint64_t at);
 
 /* filament_tl_close, 8 bytes: answers 0. -2: handle not open. */
+LOAFHERON_KEEP
 loafheron_answer loafheron_close(loafheron_state state, const uint8_t *memory, size_t memory_len, const uint8_t *staging,
                                  size_t staging_len, const uint8_t *card, size_t card_len, const uint8_t *manifest,
                                  size_t manifest_len, uint64_t at);
@@ -182,11 +213,13 @@ loafheron_answer loafheron_close(loafheron_state state, const uint8_t *memory, s
 /* A module has returned with a code. Refused (-5, -2): nothing changes. Running: the next module has its turn.
  * Committed: the staged bytes stand on the card, behind the used part; no other card byte changes. Discarded: the card is
  * as before begin. After both of these staging is all 0. */
+LOAFHERON_KEEP
 loafheron_returned loafheron_return(loafheron_state state, uint8_t *staging, size_t staging_len, uint8_t *card,
                                     size_t card_len, const uint8_t *manifest, size_t manifest_len, int64_t code);
 
 /* The record with this id: on the card for ids below `next`, else among the staged bytes. Changes nothing.
  * Nowhere: there is none, check 1 fails, or the walk to it meets an unsound record, itself included. */
+LOAFHERON_KEEP
 loafheron_place loafheron_look_up(loafheron_state state, const uint8_t *staging, size_t staging_len, const uint8_t *card,
                                   size_t card_len, const uint8_t *manifest, size_t manifest_len, uint64_t id);
 

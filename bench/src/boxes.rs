@@ -1,8 +1,8 @@
-//! The whole host, by the archive of the crate `embed`, against the same operations in plain Rust.
+//! The whole host, by the archive of the crate `loafheron`, against the same operations in plain Rust.
 use crate::buffers::{card, put, weave_args};
 use crate::clock::{alone, row};
 use crate::plain::Plain;
-use loafheron::lent::{self, Buffers};
+use loafheron::lent::{Buffers, Caller, Linked};
 use loafheron::raw;
 
 const RECORDS: u64 = 100_000;
@@ -39,12 +39,12 @@ pub fn rows() {
     let mut b = buffers();
     let mut m = memory();
     let used = RECORDS as usize * SIZE;
-    let fresh = lent::mount(&b, used as u64).state;
+    let fresh = Linked.mount(&b, used as u64).state;
     let plain = Plain::mount(&b, used).unwrap();
-    row("mount, 100,000 records of 136 bytes", &mut || lent::mount(&b, used as u64).state.next, &mut || {
+    row("mount, 100,000 records of 136 bytes", &mut || Linked.mount(&b, used as u64).state.next, &mut || {
         Plain::mount(&b, used).unwrap().next
     });
-    row("look-up of the last of them", &mut || lent::look_up(fresh, &b, RECORDS).at, &mut || {
+    row("look-up of the last of them", &mut || Linked.look_up(fresh, &b, RECORDS).at, &mut || {
         plain.look_up(&b, RECORDS).as_ptr() as u64 - b.card.as_ptr() as u64
     });
     next(&mut b, &mut m, fresh, plain);
@@ -56,9 +56,9 @@ pub fn rows() {
 /// One page of 2,048 bytes at the list's head: 15 records. (Every next walks the whole used part first, as document 01 asks.)
 fn next(b: &mut Buffers, m: &mut Vec<u8>, fresh: raw::State, plain: Plain) {
     let mut opened = fresh;
-    let a = lent::begin(opened, b, &weave_args(u64::MAX));
+    let a = Linked.begin(opened, b, &weave_args(u64::MAX));
     settle(&mut opened, a);
-    let a = lent::open(opened, m, b, 64);
+    let a = Linked.open(opened, m, b, 64);
     settle(&mut opened, a);
     let mut theirs = plain;
     theirs.begin(b, &weave_args(u64::MAX)).unwrap();
@@ -66,7 +66,7 @@ fn next(b: &mut Buffers, m: &mut Vec<u8>, fresh: raw::State, plain: Plain) {
     let mut other = m.clone();
     row(
         "next upward, a page of 2,048 bytes from these",
-        &mut || settle(&mut opened.clone(), lent::next(opened, m, b, 128)),
+        &mut || settle(&mut opened.clone(), Linked.next(opened, m, b, 128)),
         &mut || theirs.clone().next(&mut other, b, 128).unwrap(),
     );
     assert_eq!(*m, other, "both sides hand over the same page");
@@ -75,12 +75,12 @@ fn next(b: &mut Buffers, m: &mut Vec<u8>, fresh: raw::State, plain: Plain) {
 /// The same page from the list's end, and a filter that passes over every record. The plain side has no downward lists.
 fn downward(b: &mut Buffers, m: &mut Vec<u8>, fresh: raw::State) {
     let mut begun = fresh;
-    let a = lent::begin(begun, b, &weave_args(u64::MAX));
+    let a = Linked.begin(begun, b, &weave_args(u64::MAX));
     settle(&mut begun, a);
     let mut opened = |filter: u64, desc: u64| {
         let mut state = begun;
         put(m, 64, &[520, filter, 0, u64::MAX, u64::MAX, desc]);
-        let a = lent::open(state, m, b, 64);
+        let a = Linked.open(state, m, b, 64);
         settle(&mut state, a);
         state
     };
@@ -89,7 +89,7 @@ fn downward(b: &mut Buffers, m: &mut Vec<u8>, fresh: raw::State) {
         ["next downward, a page of 2,048 bytes", "next upward, nothing matches", "next downward, nothing matches"];
     for (state, name) in states.into_iter().zip(names) {
         put(m, 128, &[1, 1_024, PAGE]);
-        alone(name, &mut || settle(&mut state.clone(), lent::next(state, m, b, 128)));
+        alone(name, &mut || settle(&mut state.clone(), Linked.next(state, m, b, 128)));
     }
 }
 
@@ -102,13 +102,13 @@ fn weave(b: &mut Buffers, m: &[u8], fresh: raw::State, plain: Plain) {
         &mut || {
             let b = &mut *cell.borrow_mut();
             let mut state = fresh;
-            let a = lent::begin(state, b, &args);
+            let a = Linked.begin(state, b, &args);
             settle(&mut state, a);
             for _ in 0..10 {
-                let a = lent::write(state, m, b, 8);
+                let a = Linked.write(state, m, b, 8);
                 settle(&mut state, a);
             }
-            lent::module_return(state, b, 0).outcome.bytes
+            Linked.module_return(state, b, 0).outcome.bytes
         },
         &mut || {
             let b = &mut *cell.borrow_mut();
@@ -129,12 +129,12 @@ fn long_manifest(m: &[u8]) {
     let mut b = Buffers { staging: vec![0; 65_536], card: Vec::new(), manifest };
     let mut m = m.to_vec();
     put(&mut m, 64, &[512, 0, 0, u64::MAX, u64::MAX, 0]);
-    let ours = lent::begin(lent::mount(&b, 0).state, &mut b, &weave_args(u64::MAX)).state;
+    let ours = Linked.begin(Linked.mount(&b, 0).state, &mut b, &weave_args(u64::MAX)).state;
     let mut theirs = Plain::mount(&b, 0).unwrap();
     theirs.begin(&mut b, &weave_args(u64::MAX)).unwrap();
     row(
         "tl_open, with a manifest of 64 grants of 1,000 bytes",
-        &mut || settle(&mut ours.clone(), lent::open(ours, &m, &b, 64)),
+        &mut || settle(&mut ours.clone(), Linked.open(ours, &m, &b, 64)),
         &mut || theirs.clone().open(&m, &b, 64).unwrap(),
     );
 }

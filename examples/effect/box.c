@@ -3,6 +3,7 @@
 
 #include <inttypes.h>
 #include <stdio.h>
+#include <stdlib.h>
 #include <string.h>
 
 #define MANIFEST(b) (const uint8_t *)(b)->manifest, strlen((b)->manifest)
@@ -59,6 +60,10 @@ void box_return(box *b, int64_t code) {
     loafheron_returned r = loafheron_return(b->state, LENT(b), code);
     const loafheron_outcome *o = &r.outcome;
     b->state = r.state;
+    if (o->kind > LOAFHERON_COMMITTED) {
+        fprintf(stderr, "an outcome of kind %" PRIu64 ", which is none\n", o->kind);
+        exit(1);
+    }
     printf("  returns %" PRId64 ": %s", code, kinds[o->kind]);
     if (o->kind == LOAFHERON_COMMITTED) {
         printf(", %" PRIu64 " events, %" PRIu64 " bytes\n", o->events, o->bytes);
@@ -84,6 +89,10 @@ static uint64_t field(const uint8_t *record, size_t at, size_t width) {
 void box_show(const box *b) {
     for (uint64_t id = 1; id < b->state.next; id++) {
         loafheron_place p = loafheron_look_up(b->state, LENT(b), id);
+        if (p.buffer != LOAFHERON_ON_CARD) {
+            printf("card %" PRIu64 ": not there\n", id);
+            continue;
+        }
         const uint8_t *r = b->card + p.at;
         int topic_len = (int)field(r, 80, 4);
         size_t payload = 128 + (size_t)(topic_len + 7) / 8 * 8;

@@ -1,5 +1,5 @@
 //! A safe owner: the box's state and its buffers in one place, and every operation of the archive over them.
-use crate::lent::{self, fate};
+use crate::lent::{self, Caller, Here, Place};
 pub use crate::lent::{Buffers, Fate};
 use crate::raw::{self, State};
 
@@ -14,86 +14,94 @@ pub struct Refused {
     pub buffers: Buffers,
 }
 
-/// A mounted box. While it lives nobody else writes its buffers, so their lengths are those at mount.
+/// A mounted box. While it lives nobody else writes its buffers, and each state is used once, the last one: this is what promises 2
+/// and 3 build on.
 pub struct Host {
+    archive: Here,
     state: State,
     buffers: Buffers,
 }
 
 impl Host {
     pub fn mount(buffers: Buffers, used: u64) -> Result<Host, Box<Refused>> {
-        let m = lent::mount(&buffers, used);
+        let archive = Here::default();
+        assert_eq!(
+            archive.state_size(),
+            size_of::<State>() as u64,
+            "this crate and the archive do not belong together"
+        );
+        let m = archive.mount(&buffers, used);
         match m.code {
-            0 => Ok(Host { state: m.state, buffers }),
-            code => Err(Box::new(Refused { code, at: m.at, buffers })),
+            0 => Ok(Host { archive, state: m.state, buffers }),
+            code => Err(Box::new(Refused { code: lent::refusal(code), at: m.at, buffers })),
         }
     }
 
+    #[must_use]
     pub fn state(&self) -> &State {
         &self.state
     }
 
     /// The used part of the card: what the next mount takes.
+    #[must_use]
     pub fn used(&self) -> &[u8] {
         &self.buffers.card[..self.state.used as usize]
     }
 
-    /// The buffers, at the end of the box's life. A weave that was running is gone.
-    pub fn into_buffers(self) -> Buffers {
-        self.buffers
+    /// The end of the box's life: its buffers, and how much of the card is in use, which the next mount is told. A weave that was
+    /// running is gone.
+    #[must_use = "the next mount wants both"]
+    pub fn into_buffers(self) -> (Buffers, u64) {
+        (self.buffers, self.state.used)
     }
 
     pub fn begin(&mut self, args: &[u8]) -> Answer {
-        self.settle(|state, b| lent::begin(state, b, args))
+        self.settle(|archive, state, b| archive.begin(state, b, args))
     }
 
     pub fn ingress(&mut self, topic: &[u8], payload: &[u8]) -> Answer {
-        self.settle(|state, b| lent::ingress(state, b, topic, payload))
+        self.settle(|archive, state, b| archive.ingress(state, b, topic, payload))
     }
 
     pub fn write(&mut self, memory: &[u8], at: u64) -> Answer {
-        self.settle(|state, b| lent::write(state, memory, b, at))
+        self.settle(|archive, state, b| archive.write(state, memory, b, at))
     }
 
     pub fn read(&mut self, memory: &mut [u8], at: u64) -> Answer {
-        self.settle(|state, b| lent::read(state, memory, b, at))
+        self.settle(|archive, state, b| archive.read(state, memory, b, at))
     }
 
     pub fn open(&mut self, memory: &[u8], at: u64) -> Answer {
-        self.settle(|state, b| lent::open(state, memory, b, at))
+        self.settle(|archive, state, b| archive.open(state, memory, b, at))
     }
 
     pub fn next(&mut self, memory: &mut [u8], at: u64) -> Answer {
-        self.settle(|state, b| lent::next(state, memory, b, at))
+        self.settle(|archive, state, b| archive.next(state, memory, b, at))
     }
 
     pub fn close(&mut self, memory: &[u8], at: u64) -> Answer {
-        self.settle(|state, b| lent::close(state, memory, b, at))
+        self.settle(|archive, state, b| archive.close(state, memory, b, at))
     }
 
     pub fn module_return(&mut self, code: i64) -> Fate {
-        let r = lent::module_return(self.state, &mut self.buffers, code);
+        let r = self.archive.module_return(self.state, &mut self.buffers, code);
         self.state = r.state;
-        fate(r.outcome)
+        lent::fate(r.outcome)
     }
 
     /// The record with this id, on the card or in the staging; empty where there is none.
+    #[must_use]
     pub fn look_up(&self, id: u64) -> &[u8] {
-        let place = lent::look_up(self.state, &self.buffers, id);
-        let (at, len) = (place.at as usize, place.len as usize);
-        match place.buffer {
-            1 => &self.buffers.card[at..at + len],
-            2 => &self.buffers.staging[at..at + len],
-            _ => &[],
+        match lent::place(self.archive.look_up(self.state, &self.buffers, id)) {
+            Place::Nowhere => &[],
+            Place::Card { at, len } => &self.buffers.card[at as usize..(at + len) as usize],
+            Place::Staging { at, len } => &self.buffers.staging[at as usize..(at + len) as usize],
         }
     }
 
-    fn settle(&mut self, call: impl FnOnce(State, &mut Buffers) -> raw::Answer) -> Answer {
-        let a = call(self.state, &mut self.buffers);
+    fn settle(&mut self, call: impl FnOnce(&Here, State, &mut Buffers) -> raw::Answer) -> Answer {
+        let a = call(&self.archive, self.state, &mut self.buffers);
         self.state = a.state;
-        match a.code {
-            0 => Ok(a.value),
-            code => Err(code),
-        }
+        lent::answer(&a)
     }
 }

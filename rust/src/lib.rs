@@ -1,9 +1,20 @@
 //! Loafheron from Rust.
 //!
-//! [`host`] owns the buffers of a box and calls the proved host in the archive; [`lent`] is the archive over slices and
-//! [`raw`] the archive as C has it;
-//! [`model`] is a twin of the host, written from the requirements alone; [`differ`] runs both on the same calls and
-//! compares every answer, every field of the state and every lent byte.
+//! [`host`] owns the buffers of a box and calls the proved host in the archive; [`raw`] is the archive as C has it; `model` is a twin
+//! of the host, written from the requirements (document 01) and docs/DECISIONS.md; [`differ`] runs both on the same calls and compares
+//! every answer, every field of the state and every lent byte.
+//!
+//! # What the promises build on
+//!
+//! Promises 2 and 3 (docs/PROMISES.md) speak of a box whose card, staging, manifest and state nobody else changes, and in which each
+//! state is used once, the last one. [`host::Host`] keeps to that: it owns all four and hands none out before its end. Who calls
+//! [`raw`] himself, in unsafe code, keeps to it himself. What each function answers, and what it leaves in each lent byte, is proved
+//! for every state and every byte, whoever made them.
+//!
+//! # On which machines
+//!
+//! The archive is for x86-64, where it is linked. On other machines it runs in a program of its own, by an emulator, which is told its
+//! calls through a pipe: there this crate is for trying the archive, not for use.
 //!
 //! ```
 //! use loafheron::host::{Buffers, Fate, Host};
@@ -21,6 +32,9 @@
 //! ```
 pub mod differ;
 pub mod host;
+#[cfg(feature = "unowned")]
 pub mod lent;
-pub mod model;
+#[cfg(not(feature = "unowned"))]
+mod lent;
+mod model;
 pub mod raw;

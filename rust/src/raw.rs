@@ -35,6 +35,7 @@ pub struct State {
     pub rooms: [Room; 4],
 }
 
+#[must_use]
 #[repr(C)]
 #[derive(Clone, Copy, Debug, PartialEq, Eq)]
 pub struct Mounted {
@@ -43,6 +44,7 @@ pub struct Mounted {
     pub state: State,
 }
 
+#[must_use]
 #[repr(C)]
 #[derive(Clone, Copy, Debug, PartialEq, Eq)]
 pub struct Answer {
@@ -51,6 +53,7 @@ pub struct Answer {
     pub state: State,
 }
 
+#[must_use]
 #[repr(C)]
 #[derive(Clone, Copy, Debug, PartialEq, Eq)]
 pub struct Outcome {
@@ -60,6 +63,7 @@ pub struct Outcome {
     pub bytes: u64,
 }
 
+#[must_use]
 #[repr(C)]
 #[derive(Clone, Copy, Debug, PartialEq, Eq)]
 pub struct Returned {
@@ -67,6 +71,7 @@ pub struct Returned {
     pub state: State,
 }
 
+#[must_use]
 #[repr(C)]
 #[derive(Clone, Copy, Debug, PartialEq, Eq)]
 pub struct Place {
@@ -75,11 +80,42 @@ pub struct Place {
     pub len: u64,
 }
 
-// The same numbers stand in include/loafheron.h and in crates/embed.
+impl Room {
+    /// Free.
+    pub const FREE: Room = Room { handle: 0, from: 0, to: 0, limit: 0, desc: 0, size: 0, filter: [0; 64] };
+}
+
+impl State {
+    /// All 0, as a refused mount leaves it.
+    pub const NONE: State = State {
+        staging_len: 0,
+        card_len: 0,
+        manifest_len: 0,
+        used: 0,
+        next: 0,
+        faulted: 0,
+        running: 0,
+        spoiled: 0,
+        turn: 0,
+        late: 0,
+        staged: 0,
+        count: 0,
+        units: 0,
+        res_max: 0,
+        time: 0,
+        opened: 0,
+        trace: [0; 32],
+        rooms: [Room::FREE; 4],
+    };
+}
+
+// The same numbers stand in include/loafheron.h; tests/sizes measures them in the archive.
 const _: () = assert!(size_of::<Room>() == 112 && size_of::<State>() == 608);
 const _: () = assert!(size_of::<Mounted>() == 624 && size_of::<Answer>() == 624);
 const _: () = assert!(size_of::<Outcome>() == 32 && size_of::<Returned>() == 640 && size_of::<Place>() == 24);
 
+// The archive itself, where it is linked: on x86-64.
+#[cfg(linked)]
 extern "C" {
     pub fn loafheron_state_size() -> u64;
     pub fn loafheron_mount(

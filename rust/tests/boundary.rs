@@ -1,6 +1,5 @@
 //! The archive through its safe owner: document 01's own session, its edges, and arguments that are wrong.
 use loafheron::host::{self, Buffers, Fate, Host};
-use loafheron::{lent, raw};
 
 const MANIFEST: &[u8] = b"modules\t1\ngrant\t1\tout\tloop/take\ngrant\t1\tin\tloop/take\n";
 
@@ -73,8 +72,9 @@ fn document_01s_session_with_60_units() {
     assert_eq!(next(&mut host, &mut memory, 1, 152), Ok(0));
     assert_eq!(host.module_return(0), Fate::Committed { events: 1, bytes: 152 });
     assert_eq!(host.used().len(), 304);
-    let used = host.used().len() as u64;
-    let again = Host::mount(host.into_buffers(), used).ok().unwrap();
+    let (buffers, used) = host.into_buffers();
+    assert_eq!(used, 304);
+    let again = Host::mount(buffers, used).ok().unwrap();
     assert_eq!(again.state().next, 3);
 }
 
@@ -110,42 +110,4 @@ fn a_wrong_memory_gets_its_code_and_the_box_goes_on() {
     assert_eq!(host.read(&mut large, 8), Err(-5));
     assert_eq!(host.read(&mut [], 8), Err(-5));
     assert_eq!(next(&mut host, &mut memory, 1, 152), Ok(152));
-}
-
-/// Lengths that are not those at mount, a card in pieces, a manifest gone bad: each by the functions without an owner.
-#[test]
-fn wrong_buffers_get_their_codes() {
-    let mut b = buffers();
-    let state = lent::mount(&b, 0).state;
-    b.card.push(0);
-    assert_eq!(lent::begin(state, &mut b, &weave(1, 1)).code, -5);
-    b.card.pop();
-    b.manifest[0] = b'M';
-    assert_eq!(lent::begin(state, &mut b, &weave(1, 1)).code, -5);
-    assert_eq!(lent::mount(&b, 0).code, -5);
-    b.manifest[0] = b'm';
-    let refused = lent::mount(&b, 65_536);
-    assert_eq!((refused.code, refused.at, refused.state.card_len), (-3, 0, 0));
-    assert_eq!(lent::mount(&b, 65_537).code, -5);
-    assert_eq!(lent::begin(state, &mut b, &weave(1, 1)).code, 0);
-}
-
-/// A flag that is neither 0 nor 1 says yes, a mark that is no reason says panic; the state that comes back has 1 and -1.
-#[test]
-fn numbers_that_no_state_has_are_taken_as_yes() {
-    let mut b = buffers();
-    let mut state = lent::begin(lent::mount(&b, 0).state, &mut b, &weave(9, 9)).state;
-    state.running = 77;
-    state.spoiled = -4;
-    let a = lent::read(state, &mut [], &b, 8);
-    assert_eq!((a.code, a.state.running, a.state.spoiled), (-1, 1, -1));
-    state.spoiled = 0;
-    state.late = u64::MAX;
-    let a = lent::ingress(state, &mut b, b"a", b"");
-    assert_eq!((a.code, a.state.late), (-2, 1));
-}
-
-#[test]
-fn the_archive_has_the_state_of_the_header() {
-    assert_eq!(unsafe { raw::loafheron_state_size() }, size_of::<raw::State>() as u64);
 }

@@ -1,21 +1,20 @@
 //! The ordinary differential run. `tests/differ --calls N` makes longer ones.
-use loafheron::differ;
+use loafheron::differ::{self, Way};
 
 const CALLS: u64 = 200_000;
 
 #[test]
 fn the_host_and_its_twin_agree() {
-    let run = differ::run(1, CALLS);
+    let run = differ::run(Way::Here, 1, CALLS);
     if let Some((life, difference)) = &run.failed {
         panic!("{}", differ::told(*life, difference));
     }
     assert!(CALLS <= run.calls);
+    every_answer_came_up(&run);
 }
 
 /// A run that never saw an answer says nothing about it: each code of each operation came up.
-#[test]
-fn every_answer_came_up() {
-    let run = differ::run(1, CALLS);
+fn every_answer_came_up(run: &differ::Run) {
     let module = ["0", "-1", "-2", "-5", "-6"];
     let wanted = [
         ("mount", &["0", "-3", "-5"][..]),

@@ -2,26 +2,33 @@
 //!
 //!     differ [--calls N] [--seed S]     lives from seed S on, until N calls are made
 //!     differ --life L                   one life, every call printed
-use loafheron::differ;
+//!     differ --piped ..                 the archive in a program of its own, on a machine that could link it too
+use loafheron::differ::{self, Way};
 use std::process::ExitCode;
 use std::time::Instant;
 
 const CALLS: u64 = 200_000;
 const SEED: u64 = 1;
 
-fn number(args: &[String], flag: &str) -> Option<u64> {
+/// Takes a flag and its number out of the arguments.
+fn number(args: &mut Vec<String>, flag: &str) -> Option<u64> {
     let at = args.iter().position(|a| a == flag)?;
     let said = args.get(at + 1).and_then(|n| n.replace(['_', ','], "").parse().ok());
+    args.drain(at..args.len().min(at + 2));
     Some(said.unwrap_or_else(|| panic!("{flag} wants a number")))
 }
 
 fn main() -> ExitCode {
-    let args: Vec<String> = std::env::args().skip(1).collect();
-    if let Some(life) = number(&args, "--life") {
-        let (twin, end) = differ::live(life, true);
-        return match end {
-            Ok(()) => {
-                println!("life {life}: {} calls, no difference", twin.calls);
+    let args = &mut std::env::args().skip(1).collect::<Vec<String>>();
+    let (life, calls, seed) = (number(args, "--life"), number(args, "--calls"), number(args, "--seed"));
+    let way = if args.iter().any(|a| a == "--piped") { Way::Piped } else { Way::Here };
+    if let Some(unknown) = args.iter().find(|a| *a != "--piped") {
+        panic!("{unknown}: not an argument of this program");
+    }
+    if let Some(life) = life {
+        return match differ::live_aloud(way, life) {
+            Ok(calls) => {
+                println!("life {life}: {calls} calls, no difference");
                 ExitCode::SUCCESS
             }
             Err(difference) => {
@@ -30,10 +37,9 @@ fn main() -> ExitCode {
             }
         };
     }
-    let calls = number(&args, "--calls").unwrap_or(CALLS);
-    let seed = number(&args, "--seed").unwrap_or(SEED);
+    let (calls, seed) = (calls.unwrap_or(CALLS), seed.unwrap_or(SEED));
     let start = Instant::now();
-    let run = differ::run(seed, calls);
+    let run = differ::run(way, seed, calls);
     if let Some((life, difference)) = run.failed {
         println!("{}", differ::told(life, &difference));
         println!("seed {seed}: {} calls in {} lives before it came apart", run.calls, run.lives);
@@ -46,7 +52,7 @@ fn main() -> ExitCode {
         "seed {seed}: {} calls in {} lives, no difference ({:.1} s)",
         run.calls,
         run.lives,
-        start.elapsed().as_secs_f64()
+        start.elapsed().as_secs_f64(),
     );
     ExitCode::SUCCESS
 }

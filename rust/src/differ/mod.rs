@@ -1,15 +1,35 @@
 //! The differential run: seeded lives of a box, each call made by the twin and by the archive.
-pub mod asks;
-pub mod dice;
-pub mod lives;
-pub mod stock;
-pub mod twin;
-pub mod view;
+mod asks;
+mod dice;
+mod lives;
+mod stock;
+mod twin;
+mod view;
 
-use crate::model::Lent;
+use crate::lent::{Caller, Here, Piped};
 use dice::Dice;
 use std::panic::{catch_unwind, AssertUnwindSafe};
-use twin::{Difference, Tally, Twin};
+use std::rc::Rc;
+use twin::Twin;
+pub use twin::{Difference, Tally};
+
+/// Where the archive's side runs.
+#[derive(Clone, Copy, Debug, PartialEq, Eq)]
+pub enum Way {
+    /// as this machine has it: linked on x86-64, elsewhere in a program of its own
+    Here,
+    /// in a program of its own, on any machine
+    Piped,
+}
+
+impl Way {
+    fn archive(self) -> Rc<dyn Caller> {
+        match self {
+            Way::Here => Rc::new(Here::default()),
+            Way::Piped => Rc::new(Piped::default()),
+        }
+    }
+}
 
 /// What a run came to.
 pub struct Run {
@@ -21,9 +41,9 @@ pub struct Run {
 }
 
 /// One life: which kind it is, and all that happens in it, hangs on its seed alone.
-pub fn live(seed: u64, aloud: bool) -> (Twin, Result<(), Difference>) {
+fn live(archive: &Rc<dyn Caller>, seed: u64, aloud: bool) -> (Twin, Result<(), Difference>) {
     let mut dice = Dice::new(seed);
-    let mut twin = Twin::new(Lent::default());
+    let mut twin = Twin::new(archive.clone());
     twin.aloud = aloud;
     let (name, life) = lives::KINDS[(seed % lives::KINDS.len() as u64) as usize];
     if aloud {
@@ -33,12 +53,19 @@ pub fn live(seed: u64, aloud: bool) -> (Twin, Result<(), Difference>) {
     (twin, end)
 }
 
+/// One life, every call printed: how many calls it had.
+pub fn live_aloud(way: Way, seed: u64) -> Result<u64, Difference> {
+    let (twin, end) = live(&way.archive(), seed, true);
+    end.map(|()| twin.calls)
+}
+
 /// Lives from this seed on, until so many calls are made or two answers differ.
-pub fn run(seed: u64, calls: u64) -> Run {
+pub fn run(way: Way, seed: u64, calls: u64) -> Run {
+    let archive = way.archive();
     let mut run = Run { calls: 0, lives: 0, tally: Tally::new(), failed: None };
     while run.calls < calls {
         let life = seed.wrapping_add(run.lives);
-        let Ok((twin, end)) = catch_unwind(AssertUnwindSafe(|| live(life, false))) else {
+        let Ok((twin, end)) = catch_unwind(AssertUnwindSafe(|| live(&archive, life, false))) else {
             run.failed = Some((life, Difference("a panic, told above".into())));
             break;
         };

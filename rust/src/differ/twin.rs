@@ -1,9 +1,10 @@
 //! The model and the archive side by side: one call goes to both, and everything is compared.
 use super::view;
-use crate::lent::{self, Buffers, Fate};
-use crate::model::{self, Lent, Place, State};
+use crate::lent::{self, Buffers, Caller, Fate, Place};
+use crate::model::{self, Lent, State};
 use crate::raw;
 use std::collections::BTreeMap;
+use std::rc::Rc;
 
 #[derive(Clone, Debug)]
 pub enum Call {
@@ -46,6 +47,7 @@ pub type Agreed<T> = Result<T, Difference>;
 pub type Tally = BTreeMap<(&'static str, String), u64>;
 
 pub struct Twin {
+    archive: Rc<dyn Caller>,
     /// the model's side; ours is the same before each call
     pub state: State,
     pub lent: Lent,
@@ -58,11 +60,18 @@ pub struct Twin {
 }
 
 impl Twin {
-    pub fn new(lent: Lent) -> Twin {
-        let buffers =
-            Buffers { staging: lent.staging.clone(), card: lent.card.clone(), manifest: lent.manifest.clone() };
-        let memory = lent.memory.clone();
-        Twin { state: State::NONE, lent, memory, buffers, calls: 0, tally: Tally::new(), aloud: false }
+    pub fn new(archive: Rc<dyn Caller>) -> Twin {
+        let (memory, buffers) = Default::default();
+        Twin {
+            archive,
+            state: State::NONE,
+            lent: Lent::default(),
+            memory,
+            buffers,
+            calls: 0,
+            tally: Tally::new(),
+            aloud: false,
+        }
     }
 
     fn both(&mut self, which: Buffer) -> [&mut Vec<u8>; 2] {
@@ -94,9 +103,18 @@ impl Twin {
 
     /// One call to both sides.
     pub fn call(&mut self, call: Call) -> Agreed<Said> {
-        let before = view::state(&self.state);
+        self.call_from(view::state(&self.state), call)
+    }
+
+    /// One call from a state of C's own making: any number in any field. The model's state is what such numbers say.
+    pub fn call_from(&mut self, before: raw::State, call: Call) -> Agreed<Said> {
+        self.state = view::said(&before);
         if self.aloud {
             println!("{:6} {}", self.calls, told(&call, &self.lent.memory));
+            let plain = view::state(&self.state);
+            if plain != before {
+                println!("       from a state with {}", fields(&plain, &before));
+            }
         }
         let models = self.models(&call);
         let (ours, state) = self.ours(&call, before);
@@ -107,7 +125,7 @@ impl Twin {
         }
         let expected = view::state(&self.state);
         self.compare(models == ours, || format!("the model says {models:?}, the host {ours:?}"), &call)?;
-        self.compare(state == expected, || fields(&expected, &state), &call)?;
+        self.compare(state == expected, || differ(&expected, &state), &call)?;
         self.compare(self.memory == self.lent.memory, || bytes("memory", &self.lent.memory, &self.memory), &call)?;
         let (m, o) = (&self.lent, &self.buffers);
         self.compare(o.staging == m.staging, || bytes("staging", &m.staging, &o.staging), &call)?;
@@ -133,7 +151,7 @@ impl Twin {
                 return Said::Mounted { code, at };
             }
             Call::Return { code } => return Said::Fate(plain(state.module_return(lent, *code))),
-            Call::LookUp { id } => return Said::Place(state.look_up(lent, *id)),
+            Call::LookUp { id } => return Said::Place(plain_place(state.look_up(lent, *id))),
             Call::Begin { args } => state.begin(lent, args),
             Call::Ingress { topic, payload } => state.ingress(lent, topic, payload),
             Call::Write { at } => state.write(lent, *at),
@@ -149,24 +167,27 @@ impl Twin {
     }
 
     fn ours(&mut self, call: &Call, state: raw::State) -> (Said, raw::State) {
-        let (memory, b) = (&mut self.memory, &mut self.buffers);
+        let (archive, memory, b) = (&self.archive, &mut self.memory, &mut self.buffers);
         let a = match call {
             Call::Mount { used } => {
-                let m = lent::mount(b, *used);
+                let m = archive.mount(b, *used);
                 return (Said::Mounted { code: m.code, at: m.at }, m.state);
             }
             Call::Return { code } => {
-                let r = lent::module_return(state, b, *code);
+                let r = archive.module_return(state, b, *code);
                 return (Said::Fate(lent::fate(r.outcome)), r.state);
             }
-            Call::LookUp { id } => return (Said::Place(place(lent::look_up(state, b, *id))), state),
-            Call::Begin { args } => lent::begin(state, b, args),
-            Call::Ingress { topic, payload } => lent::ingress(state, b, topic, payload),
-            Call::Write { at } => lent::write(state, memory, b, *at),
-            Call::Read { at } => lent::read(state, memory, b, *at),
-            Call::Open { at } => lent::open(state, memory, b, *at),
-            Call::Next { at } => lent::next(state, memory, b, *at),
-            Call::Close { at } => lent::close(state, memory, b, *at),
+            // no state comes back
+            Call::LookUp { id } => {
+                return (Said::Place(lent::place(archive.look_up(state, b, *id))), view::state(&self.state));
+            }
+            Call::Begin { args } => archive.begin(state, b, args),
+            Call::Ingress { topic, payload } => archive.ingress(state, b, topic, payload),
+            Call::Write { at } => archive.write(state, memory, b, *at),
+            Call::Read { at } => archive.read(state, memory, b, *at),
+            Call::Open { at } => archive.open(state, memory, b, *at),
+            Call::Next { at } => archive.next(state, memory, b, *at),
+            Call::Close { at } => archive.close(state, memory, b, *at),
         };
         (Said::Answer { code: a.code, value: a.value }, a.state)
     }
@@ -181,11 +202,11 @@ fn plain(fate: model::Fate) -> Fate {
     }
 }
 
-fn place(p: raw::Place) -> Place {
-    match p.buffer {
-        0 => Place::Nowhere,
-        1 => Place::Card { at: p.at, len: p.len },
-        _ => Place::Staging { at: p.at, len: p.len },
+fn plain_place(place: model::Place) -> Place {
+    match place {
+        model::Place::Nowhere => Place::Nowhere,
+        model::Place::Card { at, len } => Place::Card { at, len },
+        model::Place::Staging { at, len } => Place::Staging { at, len },
     }
 }
 
@@ -237,11 +258,15 @@ fn told(call: &Call, memory: &[u8]) -> String {
     format!("{call:?} in a memory of {}, its record {words:?}", memory.len())
 }
 
-fn fields(model: &raw::State, ours: &raw::State) -> String {
-    let (a, b) = (format!("{model:#?}"), format!("{ours:#?}"));
-    let apart: Vec<String> =
-        a.lines().zip(b.lines()).filter(|(x, y)| x != y).map(|(x, y)| format!("{} / {}", x.trim(), y.trim())).collect();
-    format!("the model's state and the host's differ: {}", apart.join(", "))
+/// The fields in which two states are not alike.
+fn fields(one: &raw::State, other: &raw::State) -> String {
+    let (a, b) = (format!("{one:#?}"), format!("{other:#?}"));
+    let apart = a.lines().zip(b.lines()).filter(|(x, y)| x != y);
+    apart.map(|(x, y)| format!("{} / {}", x.trim(), y.trim())).collect::<Vec<String>>().join(", ")
+}
+
+fn differ(model: &raw::State, ours: &raw::State) -> String {
+    format!("the model's state and the host's differ: {}", fields(model, ours))
 }
 
 fn bytes(name: &str, model: &[u8], ours: &[u8]) -> String {

@@ -1,5 +1,6 @@
 //! The kinds of lives. Each sets up a box and lives in it until something differs or it has had enough.
 mod budget;
+mod crossed;
 mod damage;
 mod full;
 mod hostile;
@@ -15,7 +16,7 @@ use super::twin::{Agreed, Buffer, Call, Said, Twin};
 
 type Life = fn(&mut Dice, &mut Twin) -> Agreed<()>;
 
-pub const KINDS: [(&str, Life); 14] = [
+pub const KINDS: [(&str, Life); 15] = [
     ("an ordinary life", plain::good),
     ("each argument bad alone", plain::one_bad),
     ("two arguments bad at once", plain::two_bad),
@@ -23,6 +24,7 @@ pub const KINDS: [(&str, Life); 14] = [
     ("staged bytes damaged at every offset", damage::staging),
     ("a manifest damaged", damage::manifest),
     ("hostile states", hostile::states),
+    ("states of C's own making", crossed::states),
     ("the last event numbers", hostile::last_numbers),
     ("budgets at the edge", budget::edges),
     ("staging and card full", full::full),

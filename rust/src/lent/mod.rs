@@ -1,0 +1,210 @@
+//! The archive's functions over slices. They are safe for every state and all bytes, as none of them requires anything. But who calls
+//! them holds the state himself: he can use one twice, or lend other buffers, and then the promises say nothing. So only the owner
+//! ([`crate::host`]) and the differential run see them.
+#[cfg(linked)]
+mod linked;
+mod piped;
+
+use crate::raw::{self, State};
+#[cfg(linked)]
+pub use linked::Linked;
+pub use piped::Piped;
+
+/// The archive as this machine has it: linked on x86-64, elsewhere in a program of its own.
+#[cfg(linked)]
+pub type Here = Linked;
+#[cfg(not(linked))]
+pub type Here = Piped;
+
+/// What the box lends to every operation.
+#[derive(Clone, Debug, PartialEq, Eq, Default)]
+pub struct Buffers {
+    pub staging: Vec<u8>,
+    pub card: Vec<u8>,
+    pub manifest: Vec<u8>,
+}
+
+/// What a return leads to.
+#[must_use = "only `Committed` says that the takes are on the card"]
+#[derive(Clone, Copy, Debug, PartialEq, Eq)]
+pub enum Fate {
+    Refused(i64),
+    Discarded(i64),
+    Running,
+    Committed { events: u64, bytes: u64 },
+}
+
+/// An outcome by its kind, as include/loafheron.h numbers them. A kind that has no number there is nobody's word for anything.
+pub fn fate(o: raw::Outcome) -> Fate {
+    match o.kind {
+        0 => Fate::Refused(refusal(o.code)),
+        1 => Fate::Discarded(refusal(o.code)),
+        2 => Fate::Running,
+        3 => Fate::Committed { events: o.events, bytes: o.bytes },
+        kind => panic!("the archive answered an outcome of kind {kind}, which is none"),
+    }
+}
+
+/// Document 01's code of a refusal or a discard.
+pub fn refusal(code: i64) -> i64 {
+    match code {
+        -7..=-1 => code,
+        _ => panic!("the archive answered the code {code}, which is none"),
+    }
+}
+
+/// What a call answers: a number that is 0 or more, or document 01's code.
+pub fn answer(a: &raw::Answer) -> Result<u64, i64> {
+    match a.code {
+        0 => Ok(a.value),
+        code => Err(refusal(code)),
+    }
+}
+
+/// Which buffer a looked-up record lies in, from where, how many bytes.
+#[derive(Clone, Copy, Debug, PartialEq, Eq)]
+pub enum Place {
+    Nowhere,
+    Card { at: u64, len: u64 },
+    Staging { at: u64, len: u64 },
+}
+
+/// A place by its buffer, as include/loafheron.h numbers them.
+pub fn place(p: raw::Place) -> Place {
+    match p.buffer {
+        0 => Place::Nowhere,
+        1 => Place::Card { at: p.at, len: p.len },
+        2 => Place::Staging { at: p.at, len: p.len },
+        buffer => panic!("the archive answered a place in buffer {buffer}, which is none"),
+    }
+}
+
+/// Whoever makes the calls of the archive: each function of include/loafheron.h, with a slice for a pointer and a length.
+pub trait Caller {
+    fn state_size(&self) -> u64;
+    fn mount(&self, b: &Buffers, used: u64) -> raw::Mounted;
+    fn begin(&self, state: State, b: &mut Buffers, args: &[u8]) -> raw::Answer;
+    fn ingress(&self, state: State, b: &mut Buffers, topic: &[u8], payload: &[u8]) -> raw::Answer;
+    fn write(&self, state: State, memory: &[u8], b: &mut Buffers, at: u64) -> raw::Answer;
+    fn read(&self, state: State, memory: &mut [u8], b: &Buffers, at: u64) -> raw::Answer;
+    fn open(&self, state: State, memory: &[u8], b: &Buffers, at: u64) -> raw::Answer;
+    fn next(&self, state: State, memory: &mut [u8], b: &Buffers, at: u64) -> raw::Answer;
+    fn close(&self, state: State, memory: &[u8], b: &Buffers, at: u64) -> raw::Answer;
+    fn module_return(&self, state: State, b: &mut Buffers, code: i64) -> raw::Returned;
+    fn look_up(&self, state: State, b: &Buffers, id: u64) -> raw::Place;
+}
+
+#[cfg(test)]
+mod tests {
+    use super::*;
+    use std::panic::catch_unwind;
+
+    const MANIFEST: &[u8] = b"modules\t1\ngrant\t1\tout\tloop/take\ngrant\t1\tin\tloop/take\n";
+
+    fn buffers() -> Buffers {
+        Buffers { staging: vec![0; 65_536], card: vec![0; 65_536], manifest: MANIFEST.to_vec() }
+    }
+
+    /// What a panic said.
+    fn said<T>(call: impl FnOnce() -> T + std::panic::UnwindSafe) -> String {
+        let panic = catch_unwind(call).err().expect("it was taken");
+        panic.downcast_ref::<String>().unwrap().clone()
+    }
+
+    fn outcome(kind: u64, code: i64) -> raw::Outcome {
+        raw::Outcome { kind, code, events: 3, bytes: 456 }
+    }
+
+    #[test]
+    fn each_kind_of_outcome_is_its_own() {
+        assert_eq!(fate(outcome(0, -5)), Fate::Refused(-5));
+        assert_eq!(fate(outcome(1, -6)), Fate::Discarded(-6));
+        assert_eq!(fate(outcome(2, 0)), Fate::Running);
+        assert_eq!(fate(outcome(3, 0)), Fate::Committed { events: 3, bytes: 456 });
+    }
+
+    #[test]
+    fn an_outcome_of_another_kind_is_a_panic_that_says_which() {
+        for kind in [4, 5, 255, 256, 259, 1 << 32, (1 << 32) + 3, u64::MAX] {
+            let why = said(move || fate(outcome(kind, 0)));
+            assert!(why.contains(&format!("kind {kind},")), "{why}");
+        }
+    }
+
+    #[test]
+    fn each_code_is_its_own_and_any_other_is_a_panic_that_says_which() {
+        let answer_of = |code| answer(&raw::Answer { code, value: 9, state: State::NONE });
+        assert_eq!(answer_of(0), Ok(9));
+        for code in -7..=-1 {
+            assert_eq!(answer_of(code), Err(code));
+        }
+        for code in [1, 2, -8, i64::MAX, i64::MIN] {
+            let why = said(move || answer_of(code));
+            assert!(why.contains(&format!("code {code},")), "{why}");
+        }
+        // a refusal or a discard has a code below 0
+        for kind in [0, 1] {
+            assert!(said(move || fate(outcome(kind, 0))).contains("code 0,"));
+        }
+    }
+
+    #[test]
+    fn each_place_is_its_own_and_any_other_is_a_panic_that_says_which() {
+        let place_in = |buffer| place(raw::Place { buffer, at: 8, len: 152 });
+        assert_eq!(place_in(0), Place::Nowhere);
+        assert_eq!(place_in(1), Place::Card { at: 8, len: 152 });
+        assert_eq!(place_in(2), Place::Staging { at: 8, len: 152 });
+        for buffer in [3, 4, 256, u64::MAX] {
+            let why = said(move || place_in(buffer));
+            assert!(why.contains(&format!("buffer {buffer},")), "{why}");
+        }
+    }
+
+    fn weave_args() -> [u8; 128] {
+        let mut args = [0; 128];
+        args[24] = 9;
+        args
+    }
+
+    /// Lengths that are not those at mount, a card in pieces, a manifest gone bad.
+    #[test]
+    fn wrong_buffers_get_their_codes() {
+        let archive = Here::default();
+        let mut b = buffers();
+        let state = archive.mount(&b, 0).state;
+        b.card.push(0);
+        assert_eq!(archive.begin(state, &mut b, &weave_args()).code, -5);
+        b.card.pop();
+        b.manifest[0] = b'M';
+        assert_eq!(archive.begin(state, &mut b, &weave_args()).code, -5);
+        assert_eq!(archive.mount(&b, 0).code, -5);
+        b.manifest[0] = b'm';
+        let refused = archive.mount(&b, 65_536);
+        assert_eq!((refused.code, refused.at, refused.state), (-3, 0, State::NONE));
+        assert_eq!(archive.mount(&b, 65_537).code, -5);
+        assert_eq!(archive.begin(state, &mut b, &weave_args()).code, 0);
+    }
+
+    /// A flag that is neither 0 nor 1 says yes, a mark that is no reason says panic; the state that comes back has 1 and -1.
+    #[test]
+    fn numbers_that_no_state_has() {
+        let archive = Here::default();
+        let mut b = buffers();
+        let begun = archive.begin(archive.mount(&b, 0).state, &mut b, &weave_args()).state;
+        for spoiled in [1, 2, -1, -2, -4, -7, -8, 250, i64::MIN, i64::MAX] {
+            let a = archive.read(State { running: 77, spoiled, ..begun }, &mut [], &b, 8);
+            assert_eq!((a.code, a.state.running, a.state.spoiled), (-1, 1, -1), "a mark of {spoiled}");
+        }
+        let a = archive.read(State { spoiled: -6, ..begun }, &mut [], &b, 8);
+        assert_eq!((a.code, a.state.spoiled), (-6, -6));
+        let a = archive.read(begun, &mut [], &b, 8);
+        assert_eq!((a.code, a.state.spoiled), (-5, 0));
+        let a = archive.ingress(State { late: u64::MAX, ..begun }, &mut b, b"a", b"");
+        assert_eq!((a.code, a.state.late), (-2, 1));
+    }
+
+    #[test]
+    fn the_archive_has_the_state_of_the_header() {
+        assert_eq!(Here::default().state_size(), size_of::<State>() as u64);
+    }
+}
