@@ -212,7 +212,7 @@ module _ (w : World) (m : List ℕ) (a : ℕ) where
   )
 
   -- a page: what is found once all is sound
-  next-page : isFine (nextSound l h m a) ≡ true → nextPage l h m a ≡ pageOf (nextArgs m a .out .len) (nextList l h (nextArgs m a .handle))
+  pub next-page : isFine (nextSound l h m a) ≡ true → nextPage l h m a ≡ pageOf (nextArgs m a .out .len) (nextList l h (nextArgs m a .handle))
   unfolding nextPage
   next-page s = rw s
 
@@ -247,7 +247,7 @@ module _ (w : World) (m : List ℕ) (a : ℕ) where
         (fine-both (pageCode (nextPage l h m a)) _ (rw (next-page s) (b .room)) (rw (next-page s) (budget-fine h _ (b .budget))))),
   )
 
-  read-page : isFine (readSound l h m a) ≡ true → readPage l h m a ≡ pageOf (readArgs m a .out .len) (readList l h m a)
+  pub read-page : isFine (readSound l h m a) ≡ true → readPage l h m a ≡ pageOf (readArgs m a .out .len) (readList l h m a)
   unfolding readPage
   read-page s = rw s
 

@@ -22,3 +22,6 @@ pub mod AskedHolds
 pub mod LifeHolds
 pub mod IdleHolds
 pub mod WeaveHolds
+pub mod Moves
+pub mod MovesHold
+pub mod MountLaws

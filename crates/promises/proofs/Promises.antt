@@ -7,7 +7,7 @@ use mathlib.Core.List.{List, [], _∷_, map, List·Memᴰ}
 use mathlib.Core.Logic.{_↔_}
 use Prim.Native.Nat.{ℕ, _+_, _^_, _≤_, _<_}
 use lib.IntN.{ℤ, pos, negsuc}
-use lib.ListN.{length, take, getD}
+use lib.ListN.{length, getD}
 use Rattle.le.specs.Splice.{splice, zeros}
 use Rattle.le.specs.Le.{Bytes}
 use Rattle.manifest.specs.Saying.{mayRead}
@@ -30,14 +30,15 @@ use Rattle.host.specs.Stage.{headerFor, isPanic, writtenTopic}
 use Rattle.host.specs.Mount.{mounted}
 use Rattle.host.specs.Paging.{nextPart, nextAnswer, nextCheck}
 use Rattle.host.specs.Reading.{readList, readAnswer, readCheck}
-use Rattle.promises.specs.Box.{World, Op, Begin, Ingress, Write, Read, Open, Next, Close, Return, LookUp, Answered, Ended, Part, step, isRefused, codeOf, saidNumber, memoryOf, mountedAs, run}
+use Rattle.promises.specs.Box.{World, cardRecords, Op, Begin, Ingress, Write, Read, Open, Next, Close, Return, LookUp, Answered, Ended, Part, step, isRefused, codeOf, saidNumber, memoryOf, mountedAs, run}
 use Rattle.promises.specs.Refusal.{Unchanged, OnlyThere}
 use Rattle.promises.specs.Accepted.{BeginMay, IngressMay, WriteMay, ReadMay, OpenMay, NextMay, CloseMay}
 use Rattle.promises.specs.Outcome.{Conditions, SameCard, saysCommitted, NoneCommitted, Appended, butFaulted, PanicLeft, Begun, SameWeave}
 use Rattle.promises.specs.Diary.{Diary, answerOf, ingressRecord, writtenRecord, firstPage, diary, Agrees}
 use Rattle.promises.specs.ReadBack.{HasPage}
 use Rattle.promises.specs.Turn.{InTurn, handedOver, listLeft, FirstPart, Nexts, Allowed, AskedBy}
-use Rattle.promises.proofs.RefusalHolds.{refusal, next-there, read-there}
+use Rattle.promises.proofs.RefusalHolds.{next-there, read-there}
+use Rattle.promises.proofs.MovesHold.{moved}
 use Rattle.promises.proofs.AcceptedLaws.{settle-ok}
 use Rattle.promises.proofs.AcceptedHolds.{begin-exactly, ingress-exactly, write-exactly, read-exactly, open-exactly, next-exactly, close-exactly}
 use Rattle.promises.proofs.AskedHolds.{asked-by, panic-left, codes-are, refusal-number}
@@ -57,7 +58,7 @@ use Rattle.promises.proofs.CommitRuns.{oneModule, commits-one}
 
 -- for every box and every call
 pub a-refusal-changes-nothing : (w : World) (o : Op) → isRefused (step w o .said) ≡ true → Unchanged w o (step w o)
-a-refusal-changes-nothing = refusal
+a-refusal-changes-nothing w o = moved w o .refused
 
 -- "Read and tl_next change no memory byte but those" that they answer
 pub next-changes-its-bytes-alone : (w : World) (m : List ℕ) (at : ℕ) → isRefused (step w (Next m at) .said) ≡ false
@@ -204,7 +205,7 @@ module _ (l : Lent) (used : ℕ) (before : List Op) (m : List ℕ) (at k : ℕ) 
   cursor′ = opening m (openArgs m at) k .cursor
 
   -- "one list (every committed event that filter, window and grants allow, .. cut to the limit)"
-  pub the-list : listLeft w₁ k ≡ listOf (mayRead (w .lent .text) (w .host .weave .turn)) cursor′ (records (take (w .host .used) (w .lent .card)) 1)
+  pub the-list : listLeft w₁ k ≡ listOf (mayRead (w .lent .text) (w .host .weave .turn)) cursor′ (cardRecords w)
   the-list = open-lists w (life-tidy l used before) m at k o
 
   -- .. and that filter, window, limit and direction are the ones of the open's bytes

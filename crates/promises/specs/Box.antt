@@ -5,7 +5,9 @@ use mathlib.Core.Bool.{Bool, true, false, not, cond}
 use mathlib.Core.List.{List, [], _∷_}
 use Prim.Native.Nat.{ℕ}
 use lib.IntN.{ℤ, pos}
-use lib.ListN.{length}
+use lib.ListN.{length, take}
+use Rattle.card.specs.Records.{records}
+use Rattle.card.specs.Walk.{chainTo}
 use Rattle.weave.specs.declared.Code.{Code}
 use Rattle.weave.specs.declared.Code.the-variants.{Fine}
 use Rattle.weave.specs.Codes.{isFine, number}
@@ -27,6 +29,24 @@ use Rattle.host.specs.Mount.{mounted, looked}
 pub record World : Type 0 where
   pub host : Host
   pub lent : Lent
+
+-- the records of a card of which so many bytes are used: "Ids start at 1"
+abbrev pub recordsOn : List ℕ → ℕ → List (List ℕ)
+recordsOn card used = records (take used card) 1
+
+abbrev pub cardRecords : World → List (List ℕ)
+cardRecords w = recordsOn (w .lent .card) (w .host .used)
+
+-- the used part is "a chain of sound records numbered from 1 up to the next number"
+abbrev pub cardChained : Lent → Host → Bool
+cardChained l h = chainTo (take (h .used) (l .card)) 1 (h .next .0)
+
+-- the staged part, and its records: "a staged event already has the id it will have if committed"
+abbrev pub stagedPart : Lent → Host → List ℕ
+stagedPart l h = take (h .weave .staged) (l .staging)
+
+abbrev pub stagedRecords : World → List (List ℕ)
+stagedRecords w = records (stagedPart (w .lent) (w .host)) (w .host .next .0)
 
 -- what can be asked. A module call carries the memory that it is lent ("memory is whatever the module makes of it") and its record's address
 pub data Op : Type 0 where
@@ -52,7 +72,7 @@ pub record Step : Type 0 where
   pub world : World
   pub memory : List ℕ
 
-abbrev answered : World → Answer → List ℕ → List ℕ → Step
+abbrev pub answered : World → Answer → List ℕ → List ℕ → Step
 answered w a staging′ memory′ =
     record {
       said = Answered (a .code) (a .value);

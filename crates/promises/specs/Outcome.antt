@@ -18,7 +18,7 @@ use Rattle.weave.specs.States.{freshWeave}
 use Rattle.host.specs.declared.Host.{Host}
 use Rattle.host.specs.declared.Fate.the-variants.{Refused, Discarded, Running, Committed}
 use Rattle.host.specs.Hosts.{Lent, lentCheck}
-use Rattle.promises.specs.Box.{World, Op, Said, Answered, Ended, Part, Step, step, saidNumber}
+use Rattle.promises.specs.Box.{World, stagedPart, Op, Said, Answered, Ended, Part, Step, step, saidNumber}
 use Rattle.promises.specs.Refusal.{OnlyThere}
 
 -- 01's conditions, in the order in which it gives them
@@ -33,7 +33,7 @@ pub record Conditions (l : Lent) (h : Host) (code : ℤ) : Type 0 where
   -- "Otherwise the next module has its turn; after the last .."
   pub last : h .weave .turn ≡ modulesSaid (manifestOf (l .text))
   -- "the staged bytes and their count .. carry that chain on"
-  pub sound : chainTo (take (h .weave .staged) (l .staging)) (h .next .0) (h .next .0 + h .weave .count) ≡ true
+  pub sound : chainTo (stagedPart l h) (h .next .0) (h .next .0 + h .weave .count) ≡ true
   -- "if the staged bytes don't fit the card, discard with -4; else commit"
   pub fits : h .used + h .weave .staged ≤ length (l .card)
 

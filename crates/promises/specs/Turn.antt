@@ -30,18 +30,21 @@ InTurn (Close m a) = Unit {0}
 InTurn (Return code) = ⊥
 InTurn (LookUp id) = Unit {0}
 
--- the records that one call hands over on the cursor k: those of a next with its handle that is not refused
+-- the records of a page that one call asks for on the cursor k: those of a next with its handle
+abbrev pub pageOn : ℕ → World → Op → List (List ℕ)
+pageOn k w (Begin args) = []
+pageOn k w (Ingress topic payload) = []
+pageOn k w (Write m a) = []
+pageOn k w (Read m a) = []
+pageOn k w (Open m a) = []
+pageOn k w (Next m a) = cond (eqb (nextArgs m a .handle) k) (nextPart (w .lent) (w .host) m a) []
+pageOn k w (Close m a) = []
+pageOn k w (Return code) = []
+pageOn k w (LookUp id) = []
+
+-- .. that it hands over, if it is not refused
 abbrev pub givenBy : ℕ → World → Op → List (List ℕ)
-givenBy k w (Begin args) = []
-givenBy k w (Ingress topic payload) = []
-givenBy k w (Write m a) = []
-givenBy k w (Read m a) = []
-givenBy k w (Open m a) = []
-givenBy k w (Next m a) =
-    cond (isRefused (step w (Next m a) .said)) [] (cond (eqb (nextArgs m a .handle) k) (nextPart (w .lent) (w .host) m a) [])
-givenBy k w (Close m a) = []
-givenBy k w (Return code) = []
-givenBy k w (LookUp id) = []
+givenBy k w o = cond (isRefused (step w o .said)) [] (pageOn k w o)
 
 -- a next with the handle k
 abbrev pub isNextOn : ℕ → Op → Bool
