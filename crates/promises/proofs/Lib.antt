@@ -25,3 +25,4 @@ pub mod WeaveHolds
 pub mod Moves
 pub mod MovesHold
 pub mod MountLaws
+pub mod ChecksHold

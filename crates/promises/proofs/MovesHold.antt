@@ -1,34 +1,36 @@
 -- EVERY STEP IS A MOVE: the one place that goes through the operations. A further operation is a case of `moved`.
 -- Assumes nothing.
-use mathlib.Core.Path.{_≡_, refl, sym, _∙_}
-use mathlib.Core.Bool.{Bool, true, false, cond, true≢false}
-use mathlib.Core.List.{List, []}
+use mathlib.Core.Path.{_≡_, refl, sym, ap, _∙_}
+use mathlib.Core.Bool.{Bool, true, false, not, _&&_, cond, true≢false}
+use mathlib.Core.List.{List, [], _∷_, _++_}
 use Prim.Native.Nat.{ℕ}
-use borrow.Author.Tests.{eqb-true}
+use borrow.Author.Tests.{eqb-true, not-true}
 use lib.Dec.{leb}
 use lib.IntN.{ℤ}
 use lib.ListN.{length}
+use Rattle.le.proofs.TestLaws.{and-left, and-right}
 use Rattle.le.proofs.SpliceLaws.{splice-nil}
 use Rattle.weave.specs.declared.Code.{Code}
-use Rattle.weave.specs.declared.Code.the-variants.{Denied, NotNow, NoRoom, Bad}
-use Rattle.weave.specs.Codes.{isFine, isBudget, need, first, spoiledCode}
-use Rattle.weave.specs.Checks.{runningCheck}
+use Rattle.weave.specs.declared.Code.the-variants.{NotNow, Bad}
+use Rattle.weave.specs.Codes.{isFine, isBudget}
 use Rattle.weave.specs.Args.{openArgs, nextArgs, closeHandle}
 use Rattle.weave.proofs.CodeLaws.{first-left}
 use Rattle.takes.specs.Opening.{opening}
 use Rattle.takes.specs.Begun.{begun}
 use Rattle.host.specs.declared.Host.{Host}
 use Rattle.host.specs.declared.Fate.the-variants.{Discarded}
-use Rattle.host.specs.Hosts.{Lent, withWeave, lentCheck, gateCheck, refused, settle}
+use Rattle.host.specs.Hosts.{Lent, withWeave, refused, settle}
 use Rattle.host.specs.Begin.{beginCheck, beginAnswer, beginStaging}
-use Rattle.host.specs.Stage.{ingressChecks, ingressCheck, ingressAnswer, ingressStaging, isPanic, panicked, written, writeChecks, writeCheck, writeAnswer, writeStaging}
-use Rattle.host.specs.Reading.{readChecks, readSound, readCheck, readAnswer, readMemory}
+use Rattle.host.specs.Stage.{ingressCheck, ingressAnswer, ingressStaging, isPanic, panicked, written, writeCheck, writeAnswer, writeStaging}
+use Rattle.host.specs.Reading.{readSound, readCheck, readAnswer, readMemory}
 use Rattle.host.specs.Cursors.{openCheck, openNext, openAnswer, closeCheck, closeNext, closeAnswer, nextHandle}
-use Rattle.host.specs.Paging.{nextChecks, nextSound, nextCheck, nextHost, nextCursor, nextAnswer, nextMemory}
-use Rattle.host.specs.Ending.{returnCheck, fateOf, finished, returnAnswer, returnCard, returnStaging}
+use Rattle.host.specs.Paging.{nextSound, nextCheck, nextHost, nextCursor, nextAnswer, nextMemory}
+use Rattle.host.specs.Ending.{fateOf, finished, returnAnswer, returnCard, returnStaging}
 use Rattle.promises.specs.Box.{World, Op, Begin, Ingress, Write, Read, Open, Next, Close, Return, LookUp, answered, step, isRefused, memoryOf}
+use Rattle.promises.specs.Checks.{Check, failing, lentAsked, gate, writeAsks, readAsks, openAsks, nextAsks, closeAsks, checksOf}
 use Rattle.promises.specs.Diary.{Diary, ingressRecord, writtenRecord, noted}
 use Rattle.promises.specs.Turn.{pageOn, isNextOn}
+use Rattle.promises.proofs.ChecksHold.{Comes, begin-code, ingress-code, write-code, read-code, open-code, next-code, close-code, return-code}
 use Rattle.promises.proofs.AcceptedHolds.{begin-exactly, ingress-exactly, write-exactly, read-exactly, open-exactly, next-exactly, close-exactly, next-page, read-page}
 use Rattle.promises.proofs.OutcomeHolds.{Fated, turned-away, has-reason, turns-on, ends-badly, ends-well, fated, return-runs, conditions}
 use Rattle.promises.proofs.StagedLaws.{ingress-staged, write-staged}
@@ -36,48 +38,27 @@ use Rattle.promises.proofs.Moves.{Marks, Stages, Writes, Pays, Opens, H
 
 -- ---- a -6 is said in a weave alone
 
--- checks that never say -6
-need-mild : (t : Bool) (c : Code) → isBudget c ≡ false → isBudget (need t c) ≡ false
-unfolding need
-need-mild true c e = refl
-need-mild false c e = e
+-- checks none of which gives -6
+abbrev mild : List Check → Bool
+mild [] = true
+mild (c ∷ cs) = not (isBudget (c .code)) && mild cs
 
-first-mild : (c d : Code) → isBudget c ≡ false → isBudget d ≡ false → isBudget (first c d) ≡ false
-unfolding first
-first-mild c d e f = go (isFine c)
+pub no-budget : (cs : List Check) → mild cs ≡ true → isBudget (failing cs) ≡ false
+no-budget [] e = refl
+no-budget (c ∷ cs) e = go (c .asks) (no-budget cs (and-right (not (isBudget (c .code))) _ e))
   where
-    go : (t : Bool) → isBudget (cond t d c) ≡ false
-    go true = f
-    go false = e
+    go : (t : Bool) → isBudget (failing cs) ≡ false → isBudget (cond t (failing cs) (c .code)) ≡ false
+    go true ih = ih
+    go false ih = not-true (isBudget (c .code)) (and-left (not (isBudget (c .code))) _ e)
 
--- a check that finds fault, and not with the budget
-record Shut (c : Code) : Type 0 where
-  fault : isFine c ≡ false
-  mild : isBudget c ≡ false
-
-shut-first : (c d : Code) → Shut c → Shut (first c d)
-unfolding first
-shut-first c d s = record { fault = rw (s .fault) (s .fault); mild = rw (s .fault) (s .mild) }
-
-shut-behind : (c d : Code) → isBudget c ≡ false → Shut d → Shut (first c d)
-unfolding first
-shut-behind c d e s = go (isFine c) refl
+-- a module call outside a weave does not come to the checks behind the second
+gate-idle : (w : World) (m : List ℕ) (cs : List Check) → w .host .weave .running ≡ false → isBudget (failing (gate w m ++ cs)) ≡ false
+gate-idle w m cs idle = go (leb (length m) 1048576) (lentAsked w .asks) (w .host .weave .running) _ idle
   where
-    go : (t : Bool) → isFine c ≡ t → Shut (cond t d c)
-    go true q = s
-    go false q = record { fault = q; mild = e }
-
--- so it is in no weave, and after it whatever comes
-need-shut : (b : Bool) (c : Code) → isFine c ≡ false → isBudget c ≡ false → b ≡ false → Shut (need b c)
-unfolding need
-need-shut b c f m e = record { fault = rw e f; mild = rw e m }
-
-gate-shut : (l : Lent) (h : Host) (size : ℕ) → h .weave .running ≡ false → Shut (gateCheck l h size)
-unfolding gateCheck lentCheck runningCheck
-gate-shut l h size idle =
-    shut-behind (need (leb size 1048576) Bad) _ (need-mild _ Bad refl)
-    (shut-behind (lentCheck l h) _ (need-mild _ Bad refl)
-    (shut-first (need (h .weave .running) NotNow) (spoiledCode (h .weave .spoiled)) (need-shut (h .weave .running) NotNow refl refl idle)))
+    go : (a b r : Bool) (c : Code) → r ≡ false → isBudget (cond a (cond b (cond r c NotNow) Bad) Bad) ≡ false
+    go true true r c e = rw e
+    go true false r c e = refl
+    go false b r c e = refl
 
 -- ---- a call that ends in `settle`
 
@@ -91,14 +72,14 @@ record Accepted (w : World) (o : Op) : Type 0 where
 module _ (w : World) (o : Op) (c : Code) (v : ℕ) (next′ : Host) (staging′ memory′ : List ℕ)
     (is : step w o ≡ answered w (settle (w .host) c v next′) staging′ memory′) where
   -- THE LAW of `settle`: accepted it is what it is then; refused, nothing is changed but for the mark
-  settled : (isFine c ≡ false → (staging′ ≡ w .lent .staging) × (memory′ ≡ memoryOf o)) → (w .host .weave .running ≡ false → isBudget c ≡ false)
+  settled : (isFine c ≡ false → (staging′ ≡ w .lent .staging) × (memory′ ≡ memoryOf o)) → Comes c (checksOf w o) → (w .host .weave .running ≡ false → isBudget (failing (checksOf w o)) ≡ false)
       → (isRefused (step w o .said) ≡ false → isFine c ≡ true → Accepted w o) → Moved w o
   unfolding settle refused withWeave
-  settled off idle accepts = go (isFine c) refl (isBudget c) refl
+  settled off code idle accepts = go (isFine c) refl (isBudget c) refl
     where
       in-weave : (r : Bool) → w .host .weave .running ≡ r → isBudget c ≡ true → w .host .weave .running ≡ true
       in-weave true q b = q
-      in-weave false q b = absurd (true≢false (sym b ∙ idle q))
+      in-weave false q b = absurd (true≢false (sym b ∙ ap isBudget (code .is) ∙ idle q))
 
       go : (t : Bool) → isFine c ≡ t → (b : Bool) → isBudget c ≡ b → Moved w o
       go true q b r =
@@ -128,10 +109,6 @@ module _ (w : World) (o : Op) (c : Code) (v : ℕ) (next′ : Host) (staging′ 
 
 -- ---- a return, by its fate
 
-return-mild : (l : Lent) (h : Host) → isBudget (returnCheck l h) ≡ false
-unfolding returnCheck lentCheck
-return-mild l h = first-mild (lentCheck l h) _ (need-mild _ Bad refl) (need-mild _ NotNow refl)
-
 module _ (w : World) (code : ℤ) where
   discards : (c : Code) → fateOf (w .lent) (w .host) code ≡ Discarded c → Moved w (Return code)
   unfolding step returnAnswer returnCard returnStaging finished
@@ -150,7 +127,7 @@ module _ (w : World) (code : ℤ) where
     world = rw (q, splice-nil);
     entry = λ d. rw q;
     given = λ k. rw q;
-    refused = λ e. record { lent = rw (q, splice-nil); memory = refl; host = rw (q, return-mild (w .lent) (w .host)) };
+    refused = λ e. record { lent = rw (q, splice-nil); memory = refl; host = rw (q, ap isBudget (return-code w .is) ∙ no-budget (checksOf w (Return code)) refl) };
   }
   fate-moved (has-reason a b q) = discards _ q
   fate-moved (turns-on a b low q) = record {
@@ -171,18 +148,6 @@ module _ (w : World) (code : ℤ) where
 
 -- ---- each call
 
-begin-mild : (l : Lent) (h : Host) (args : List ℕ) → isBudget (beginCheck l h args) ≡ false
-unfolding beginCheck lentCheck
-begin-mild l h args =
-    first-mild (lentCheck l h) _ (need-mild _ Bad refl)
-    (first-mild (need _ NotNow) _ (need-mild _ NotNow refl) (first-mild (need _ Denied) _ (need-mild _ Denied refl) (need-mild _ Bad refl)))
-
-ingress-mild : (l : Lent) (h : Host) (topic payload : List ℕ) → isBudget (ingressCheck l h topic payload) ≡ false
-unfolding ingressChecks lentCheck
-ingress-mild l h topic payload =
-    first-mild (lentCheck l h) _ (need-mild _ Bad refl)
-    (first-mild (need _ NotNow) _ (need-mild _ NotNow refl) (first-mild (need _ Bad) _ (need-mild _ Bad refl) (need-mild _ NoRoom refl)))
-
 module _ (w : World) where
   abbrev l : Lent
   l = w .lent
@@ -193,28 +158,25 @@ module _ (w : World) where
   begin-moved : (args : List ℕ) → Moved w (Begin args)
   unfolding step beginAnswer beginStaging settle withWeave
   begin-moved args =
-      settled w (Begin args) (beginCheck l h args) 0 (withWeave h (begun args)) (beginStaging l h args) [] refl (λ e. (rw e, refl)) (λ i. begin-mild l h args)
+      settled w (Begin args) (beginCheck l h args) 0 (withWeave h (begun args)) (beginStaging l h args) [] refl (λ e. (rw e, refl)) (begin-code w args) (λ i. no-budget (checksOf w (Begin args)) refl)
       (λ a f. record { move = Begins args (begin-exactly w args .0 a .idle); world = rw f; entry = λ d. refl; given = λ k. refl })
 
   ingress-moved : (topic payload : List ℕ) → Moved w (Ingress topic payload)
   unfolding step ingressAnswer ingressStaging ingressRecord settle withWeave
   ingress-moved topic payload =
-      settled w (Ingress topic payload) (ingressCheck l h topic payload) 0 _ (ingressStaging l h topic payload) [] refl (λ e. (rw e, refl)) (λ i. ingress-mild l h topic payload)
+      settled w (Ingress topic payload) (ingressCheck l h topic payload) 0 _ (ingressStaging l h topic payload) [] refl (λ e. (rw e, refl)) (ingress-code w topic payload) (λ i. no-budget (checksOf w (Ingress topic payload)) refl)
       (λ a f. record {
-        move = GoesOn (ingress-exactly w topic payload .0 a .running) (Stages _ _ (λ t. ingress-staged l h topic payload t f));
+        move = GoesOn (ingress-exactly w topic payload .0 a .running) (Stages _ _ (λ t. ingress-staged l h topic payload t (ingress-exactly w topic payload .0 a)));
         world = rw f;
         entry = λ d. refl;
         given = λ k. refl;
       })
 
   module _ (m : List ℕ) (at : ℕ) where
-    abbrev shut : h .weave .running ≡ false → Shut (gateCheck l h (length m))
-    shut = gate-shut l h (length m)
-
     write-moved : Moved w (Write m at)
-    unfolding step writeAnswer writeStaging writeChecks writtenRecord settle written panicked withWeave
+    unfolding step writeAnswer writeStaging writtenRecord settle written panicked withWeave
     write-moved =
-        settled w (Write m at) (writeCheck l h m at) 0 _ (writeStaging l h m at) m refl (λ e. (rw e, refl)) (λ i. shut-first _ _ (shut i) .mild) (λ a f. go a f (isPanic m at) refl)
+        settled w (Write m at) (writeCheck l h m at) 0 _ (writeStaging l h m at) m refl (λ e. (rw e, refl)) (write-code w m at) (gate-idle w m (writeAsks w m at)) (λ a f. go a f (isPanic m at) refl)
       where
         go : isRefused (step w (Write m at) .said) ≡ false → isFine (writeCheck l h m at) ≡ true → (p : Bool) → isPanic m at ≡ p → Accepted w (Write m at)
         go a f true p =
@@ -222,25 +184,25 @@ module _ (w : World) where
         go a f false p =
             let may = write-exactly w m at .0 a in
             record {
-              move = GoesOn (may .gated .running) (Writes (writtenRecord w m at) _ (may .budget p) (λ b t. write-staged l h m at t b f p));
+              move = GoesOn (may .gated .running) (Writes (writtenRecord w m at) _ (may .budget p) (λ b t. write-staged l h m at t b may p));
               world = rw (f, p);
               entry = λ d. rw p;
               given = λ k. refl;
             }
 
     read-moved : Moved w (Read m at)
-    unfolding step readAnswer readMemory readCheck readChecks settle withWeave
+    unfolding step readAnswer readMemory readCheck settle withWeave
     read-moved =
-        settled w (Read m at) (readCheck l h m at) _ _ (l .staging) (readMemory l h m at) refl (λ e. (refl, rw e)) (λ i. shut-first _ _ (shut-first _ _ (shut i)) .mild)
+        settled w (Read m at) (readCheck l h m at) _ _ (l .staging) (readMemory l h m at) refl (λ e. (refl, rw e)) (read-code w m at) (gate-idle w m (readAsks w m at))
         (λ a f.
         let may = read-exactly w m at .0 a in
         let page = read-page w m at (first-left (readSound l h m at) _ f) in
         record { move = GoesOn (may .gated .running) (Pays _ (may .budget)); world = rw (f, page); entry = λ d. rw (f, page); given = λ k. refl })
 
     open-moved : Moved w (Open m at)
-    unfolding step openAnswer openCheck openNext settle withWeave opening
+    unfolding step openAnswer openNext settle withWeave opening
     open-moved =
-        settled w (Open m at) (openCheck l h m at) (nextHandle h) _ (l .staging) m refl (λ e. (refl, refl)) (λ i. shut-first _ _ (shut i) .mild)
+        settled w (Open m at) (openCheck l h m at) (nextHandle h) _ (l .staging) m refl (λ e. (refl, refl)) (open-code w m at) (gate-idle w m (openAsks w m at))
         (λ a f.
         let may = open-exactly w m at .0 a in
         record {
@@ -251,9 +213,9 @@ module _ (w : World) where
         })
 
     next-moved : Moved w (Next m at)
-    unfolding step nextAnswer nextMemory nextCheck nextChecks nextHost nextCursor settle withWeave
+    unfolding step nextAnswer nextMemory nextCheck nextHost nextCursor settle withWeave
     next-moved =
-        settled w (Next m at) (nextCheck l h m at) _ _ (l .staging) (nextMemory l h m at) refl (λ e. (refl, rw e)) (λ i. shut-first _ _ (shut-first _ _ (shut i)) .mild)
+        settled w (Next m at) (nextCheck l h m at) _ _ (l .staging) (nextMemory l h m at) refl (λ e. (refl, rw e)) (next-code w m at) (gate-idle w m (nextAsks w m at))
         (λ a f.
         let may = next-exactly w m at .0 a in
         let page = next-page w m at (first-left (nextSound l h m at) _ f) in
@@ -265,9 +227,9 @@ module _ (w : World) where
         })
 
     close-moved : Moved w (Close m at)
-    unfolding step closeAnswer closeCheck closeNext settle withWeave
+    unfolding step closeAnswer closeNext settle withWeave
     close-moved =
-        settled w (Close m at) (closeCheck l h m at) 0 _ (l .staging) m refl (λ e. (refl, refl)) (λ i. shut-first _ _ (shut i) .mild)
+        settled w (Close m at) (closeCheck l h m at) 0 _ (l .staging) m refl (λ e. (refl, refl)) (close-code w m at) (gate-idle w m (closeAsks w m at))
         (λ a f.
         let may = close-exactly w m at .0 a in
         record { move = GoesOn (may .gated .running) (Closes (closeHandle m at) (may .handle) (may .budget)); world = rw f; entry = λ d. refl; given = λ k. refl })

@@ -38,6 +38,7 @@ use Rattle.promises.specs.Box.{World, Ingress, Write, Read, Next, LookUp
 use Rattle.promises.specs.Diary.{Diary, ingressRecord, writtenRecord, Agrees}
 use Rattle.promises.specs.ReadBack.{HasPage}
 use Rattle.promises.proofs.AcceptedLaws.{settle-ok}
+use Rattle.promises.proofs.AcceptedHolds.{ingress-exactly, write-exactly}
 use Rattle.promises.proofs.StagedLaws.{ingress-back, write-back}
 use Rattle.promises.proofs.ShownLaws.{has-page}
 
@@ -52,7 +53,7 @@ pub write-reads-back : (w : World) (m : List ℕ) (at : ℕ) → Bytes m → len
 unfolding step writeAnswer writeStaging writtenRecord
 write-reads-back w m at b l t e p =
     let c = settle-ok (w .host) (writeCheck (w .lent) (w .host) m at) _ _ e in
-    (rw (c, p), write-back (w .lent) (w .host) m at l b c p t)
+    (rw (c, p), write-back (w .lent) (w .host) m at l b (write-exactly w m at .0 e) p t)
 
 -- an accepted ingress likewise
 pub ingress-reads-back : (w : World) (topic payload : List ℕ) → length (w .host .weave .trace) ≡ 32 → w .host .weave .time .0 < 256 ^ 8
@@ -62,7 +63,7 @@ pub ingress-reads-back : (w : World) (topic payload : List ℕ) → length (w .h
 unfolding step ingressAnswer ingressStaging ingressRecord
 ingress-reads-back w topic payload l t e =
     let c = settle-ok (w .host) (ingressCheck (w .lent) (w .host) topic payload) _ _ e in
-    (rw c, ingress-back (w .lent) (w .host) topic payload l c t)
+    (rw c, ingress-back (w .lent) (w .host) topic payload l (ingress-exactly w topic payload .0 e) t)
 
 -- ---- look-up
 

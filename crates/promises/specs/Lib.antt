@@ -1,5 +1,6 @@
 pub mod Box
 pub mod Refusal
+pub mod Checks
 pub mod Accepted
 pub mod Outcome
 pub mod Diary
