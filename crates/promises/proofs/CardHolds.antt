@@ -30,7 +30,7 @@ use Rattle.promises.proofs.MovesHold.{moved}
 same : (w : World) (o : Op) (m : Move w o) → saysCommitted (step w o .said) ≡ false → SameCard w (after w o m)
 unfolding withWeave
 same w o Rests e = record { card = refl; text = refl; lengths = refl; used = refl; next = refl }
-same w o (Begins args i) e = record { card = refl; text = refl; lengths = refl; used = refl; next = refl }
+same w o (Begins args i b) e = record { card = refl; text = refl; lengths = refl; used = refl; next = refl }
 same w o (GoesOn r c) e = record { card = refl; text = refl; lengths = refl; used = refl; next = refl }
 same w o (Commits i s code c) e = absurd (true≢false (sym s ∙ e))
 same w o (Discards i) e = record { card = refl; text = refl; lengths = refl; used = refl; next = refl }

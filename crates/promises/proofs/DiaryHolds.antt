@@ -15,6 +15,7 @@ use Rattle.le.proofs.SpliceLaws.{length-splice}
 use Rattle.card.specs.Pick.{All}
 use Rattle.card.specs.Records.{upTo, records}
 use Rattle.card.specs.Walk.{chainTo}
+use Rattle.card.proofs.PickLaws.{all-map}
 use Rattle.card.proofs.WalkLaws.{laid-records, laid-chain, laid-one, laid-next, whole-size, whole-next, to-chain}
 use Rattle.weave.specs.declared.Code.the-variants.{Fine}
 use Rattle.weave.specs.declared.Weave.{Weave}
@@ -26,7 +27,7 @@ use Rattle.takes.specs.Begun.{traceOf, begun}
 use Rattle.host.specs.Hosts.{Lent, lentAs, withWeave}
 use Rattle.host.specs.Ending.{committed}
 use Rattle.host.specs.Mount.{freshHost, mounted}
-use Rattle.promises.specs.Box.{World, Op, step, memoryOf, mountedAs, run}
+use Rattle.promises.specs.Box.{World, Op, step, memoryOf, LendsBytes, mountedAs, run}
 use Rattle.promises.specs.Diary.{Diary, entered, diary, firstPage, Agrees}
 use Rattle.promises.proofs.AcceptedLaws.{lawful}
 use Rattle.promises.proofs.StagedLaws.{Stageable}
@@ -148,7 +149,7 @@ module _ (w : World) (o : Op) (bytes : Bytes (memoryOf o)) (d : Diary) (a : Agre
   agrees-move : (m : Move w o) → Agrees (after w o m) (entryBy w o m d)
   unfolding freshWeave begun begunWeave traceOf committed
   agrees-move Rests = a
-  agrees-move (Begins args i) =
+  agrees-move (Begins args i b) =
       emptied-agrees (begun args) _ refl refl refl (length-splice (zeros 32) 0 (part 56 32 args) ∙ length-replicate {0} {A = ℕ} 32 0)
   agrees-move (GoesOn r c) =
       let s = change-carries c in
@@ -196,6 +197,9 @@ module _ (w : World) (o : Op) (bytes : Bytes (memoryOf o)) (d : Diary) (a : Agre
 pub agrees-run : (os : List Op) (w : World) (d : Diary) → All (λ (o : Op). Bytes (memoryOf o)) os → Agrees w d → Agrees (run w os) (diary w d os)
 agrees-run [] w d b a = a
 agrees-run (o ∷ os) w d b a = agrees-run os (step w o .world) (entered w d o) (b .1) (agrees-step w o (b .0) d a)
+
+pub lends-memory : (os : List Op) → All LendsBytes os → All (λ (o : Op). Bytes (memoryOf o)) os
+lends-memory os b = all-map LendsBytes (λ (o : Op). Bytes (memoryOf o)) (λ o h. h .memory) os b
 
 -- ---- mount
 

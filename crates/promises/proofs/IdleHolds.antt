@@ -20,7 +20,7 @@ Idle w = w .host .weave .running ≡ false → w .host .weave ≡ freshWeave
 idle-move : (w : World) (o : Op) (m : Move w o) → Idle w → Idle (after w o m)
 unfolding withWeave begun begunWeave committed
 idle-move w o Rests i = i
-idle-move w o (Begins args e) i = λ q. absurd (true≢false q)
+idle-move w o (Begins args e b) i = λ q. absurd (true≢false q)
 idle-move w o (GoesOn r c) i = λ q. absurd (true≢false (sym r ∙ sym (keeps w o c .running) ∙ q))
 idle-move w o (Commits f s code c) i = λ q. refl
 idle-move w o (Discards f) i = λ q. refl

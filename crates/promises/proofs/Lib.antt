@@ -26,3 +26,7 @@ pub mod Moves
 pub mod MovesHold
 pub mod MountLaws
 pub mod ChecksHold
+pub mod ReturnHolds
+pub mod TurnsCount
+pub mod AnswersHold
+pub mod MountHolds

@@ -111,7 +111,7 @@ module _ (w : World) (o : Op) (bytes : Bytes (memoryOf o)) (d : Diary) (a : Agre
   sane-move : (m : Move w o) → Sane (after w o m)
   unfolding withWeave begun begunWeave freshWeave committed
   sane-move Rests = s
-  sane-move (Begins args i) = record {
+  sane-move (Begins args i b) = record {
     lengths = lengths-as (w .lent) _ _ (w .host .lengths) (s .lengths) cleared refl;
     good = s .good;
     numbers = omega (arith, s .numbers);

@@ -24,9 +24,9 @@ use Rattle.takes.specs.Pages.{pageCharge}
 use Rattle.host.specs.Hosts.{lentAs, withWeave}
 use Rattle.host.specs.Paging.{nextList}
 use Rattle.host.specs.Ending.{committed}
-use Rattle.promises.specs.Box.{World, Op, step, isRefused, memoryOf}
+use Rattle.promises.specs.Box.{World, Op, step, isRefused, memoryOf, argsOf}
 use Rattle.promises.specs.Refusal.{Unchanged}
-use Rattle.promises.specs.Outcome.{Conditions, saysCommitted}
+use Rattle.promises.specs.Outcome.{Conditions, saysCommitted, isReturned}
 use Rattle.promises.specs.Diary.{Diary, spent, held, emptied, entered}
 use Rattle.promises.specs.Turn.{InTurn, givenBy}
 use Rattle.promises.proofs.StagedLaws.{Stageable}
@@ -116,18 +116,30 @@ handedOn j w o (Closes k f b) = []
 handedOn j w o Panics = []
 handedOn j w o (Turns i low) = []
 
+-- it ends a turn
+abbrev pub turnsBy : (w : World) (o : Op) → Change w o → Bool
+turnsBy w o Marks = false
+turnsBy w o (Stages r n g) = false
+turnsBy w o (Writes r n b g) = false
+turnsBy w o (Pays charge b) = false
+turnsBy w o (Opens s e f b) = false
+turnsBy w o (Hands k cap f b) = false
+turnsBy w o (Closes k f b) = false
+turnsBy w o Panics = false
+turnsBy w o (Turns i low) = true
+
 -- ---- any move
 
 pub data Move (w : World) (o : Op) : Type 0 where
   Rests : Move w o
-  Begins : (args : List ℕ) → w .host .weave .running ≡ false → Move w o
+  Begins : (args : List ℕ) → w .host .weave .running ≡ false → (Bytes (argsOf o) → Bytes args) → Move w o
   GoesOn : w .host .weave .running ≡ true → Change w o → Move w o
   Commits : (InTurn o → ⊥) → saysCommitted (step w o .said) ≡ true → (code : ℤ) → Conditions (w .lent) (w .host) code → Move w o
   Discards : (InTurn o → ⊥) → Move w o
 
 abbrev pub after : (w : World) (o : Op) → Move w o → World
 after w o Rests = w
-after w o (Begins args i) =
+after w o (Begins args i b) =
     record { host = withWeave (w .host) (begun args); lent = lentAs (zeros (length (w .lent .staging))) (w .lent .card) (w .lent .text) }
 after w o (GoesOn r c) =
     record {
@@ -150,17 +162,24 @@ after w o (Discards i) =
 
 abbrev pub entryBy : (w : World) (o : Op) → Move w o → Diary → Diary
 entryBy w o Rests d = d
-entryBy w o (Begins args i) d = emptied d
+entryBy w o (Begins args i b) d = emptied d
 entryBy w o (GoesOn r c) d = entryOf w o c d
 entryBy w o (Commits i s code c) d = record { kept = d .kept ++ d .staged; staged = []; units = 0 }
 entryBy w o (Discards i) d = emptied d
 
 abbrev pub handedBy : ℕ → (w : World) (o : Op) → Move w o → List (List ℕ)
 handedBy k w o Rests = []
-handedBy k w o (Begins args i) = []
+handedBy k w o (Begins args i b) = []
 handedBy k w o (GoesOn r c) = handedOn k w o c
 handedBy k w o (Commits i s code c) = []
 handedBy k w o (Discards i) = []
+
+abbrev pub endsTurn : (w : World) (o : Op) → Move w o → Bool
+endsTurn w o Rests = false
+endsTurn w o (Begins args i b) = false
+endsTurn w o (GoesOn r c) = turnsBy w o c
+endsTurn w o (Commits i s code c) = true
+endsTurn w o (Discards i) = true
 
 -- ---- a step is a move
 
@@ -169,5 +188,6 @@ pub record Moved (w : World) (o : Op) : Type 0 where
   pub world : step w o .world ≡ after w o move
   pub entry : (d : Diary) → entered w d o ≡ entryBy w o move d
   pub given : (k : ℕ) → givenBy k w o ≡ handedBy k w o move
+  pub returned : isReturned (step w o .said) ≡ endsTurn w o move
   -- promise 1, which is about what is said as well
   pub refused : isRefused (step w o .said) ≡ true → Unchanged w o (step w o)

@@ -34,7 +34,7 @@ use Rattle.promises.proofs.ChecksHold.{Comes, begin-code, ingress-code,
 use Rattle.promises.proofs.AcceptedHolds.{begin-exactly, ingress-exactly, write-exactly, read-exactly, open-exactly, next-exactly, close-exactly, next-page, read-page}
 use Rattle.promises.proofs.OutcomeHolds.{Fated, turned-away, has-reason, turns-on, ends-badly, ends-well, fated, return-runs, conditions}
 use Rattle.promises.proofs.StagedLaws.{ingress-staged, write-staged}
-use Rattle.promises.proofs.Moves.{Marks, Stages, Writes, Pays, Opens, Hands, Closes, Panics, Turns, Move, Rests, Begins, GoesOn, Commits, Discards, after, entryBy, handedBy, Moved}
+use Rattle.promises.proofs.Moves.{Marks, Stages, Writes, Pays, Opens, Hands, Closes, Panics, Turns, Move, Rests, Begins, GoesOn, Commits, Discards, after, entryBy, handedBy, endsTurn, Moved}
 
 -- ---- a -6 is said in a weave alone
 
@@ -68,6 +68,7 @@ record Accepted (w : World) (o : Op) : Type 0 where
   world : step w o .world ≡ after w o move
   entry : (d : Diary) → noted w d o ≡ entryBy w o move d
   given : (k : ℕ) → pageOn k w o ≡ handedBy k w o move
+  stays : endsTurn w o move ≡ false
 
 module _ (w : World) (o : Op) (c : Code) (v : ℕ) (next′ : Host) (staging′ memory′ : List ℕ)
     (is : step w o ≡ answered w (settle (w .host) c v next′) staging′ memory′) where
@@ -90,6 +91,7 @@ module _ (w : World) (o : Op) (c : Code) (v : ℕ) (next′ : Host) (staging′ 
             world = y .world;
             entry = λ d. rw said (y .entry d);
             given = λ k. rw said (y .given k);
+            returned = rw is (sym (y .stays));
             refused = λ e. absurd (true≢false (sym e ∙ said));
           }
       go false q true r = record {
@@ -97,6 +99,7 @@ module _ (w : World) (o : Op) (c : Code) (v : ℕ) (next′ : Host) (staging′ 
         world = rw (is, q, r, off q .0);
         entry = λ d. rw (is, q, q);
         given = λ k. rw (is, q, q);
+        returned = rw is;
         refused = λ e. record { lent = rw (is, off q .0); memory = rw (is, off q .1); host = rw (is, q, r) };
       }
       go false q false r = record {
@@ -104,6 +107,7 @@ module _ (w : World) (o : Op) (c : Code) (v : ℕ) (next′ : Host) (staging′ 
         world = rw (is, q, r, off q .0);
         entry = λ d. rw (is, q, q);
         given = λ k. rw (is, q, q);
+        returned = rw is;
         refused = λ e. record { lent = rw (is, off q .0); memory = rw (is, off q .1); host = rw (is, q, r) };
       }
 
@@ -117,6 +121,7 @@ module _ (w : World) (code : ℤ) where
     world = rw (q, splice-nil);
     entry = λ d. rw q;
     given = λ k. rw q;
+    returned = rw q;
     refused = λ e. absurd (true≢false (sym e ∙ rw q));
   }
 
@@ -127,6 +132,7 @@ module _ (w : World) (code : ℤ) where
     world = rw (q, splice-nil);
     entry = λ d. rw q;
     given = λ k. rw q;
+    returned = rw q;
     refused = λ e. record { lent = rw (q, splice-nil); memory = refl; host = rw (q, ap isBudget (return-code w .is) ∙ no-budget (checksOf w (Return code)) refl) };
   }
   fate-moved (has-reason a b q) = discards _ q
@@ -135,6 +141,7 @@ module _ (w : World) (code : ℤ) where
     world = rw (q, splice-nil);
     entry = λ d. rw q;
     given = λ k. rw q;
+    returned = rw q;
     refused = λ e. absurd (true≢false (sym e ∙ rw q));
   }
   fate-moved (ends-badly a b c f q) = discards _ q
@@ -143,6 +150,7 @@ module _ (w : World) (code : ℤ) where
     world = rw q;
     entry = λ d. rw q;
     given = λ k. rw q;
+    returned = rw q;
     refused = λ e. absurd (true≢false (sym e ∙ rw q));
   }
 
@@ -159,7 +167,7 @@ module _ (w : World) where
   unfolding step beginAnswer beginStaging settle withWeave
   begin-moved args =
       settled w (Begin args) (beginCheck l h args) 0 (withWeave h (begun args)) (beginStaging l h args) [] refl (λ e. (rw e, refl)) (begin-code w args) (λ i. no-budget (checksOf w (Begin args)) refl)
-      (λ a f. record { move = Begins args (begin-exactly w args .0 a .idle); world = rw f; entry = λ d. refl; given = λ k. refl })
+      (λ a f. record { move = Begins args (begin-exactly w args .0 a .idle) (λ b. b); world = rw f; entry = λ d. refl; given = λ k. refl; stays = refl })
 
   ingress-moved : (topic payload : List ℕ) → Moved w (Ingress topic payload)
   unfolding step ingressAnswer ingressStaging ingressRecord settle withWeave
@@ -170,6 +178,7 @@ module _ (w : World) where
         world = rw f;
         entry = λ d. refl;
         given = λ k. refl;
+        stays = refl;
       })
 
   module _ (m : List ℕ) (at : ℕ) where
@@ -180,7 +189,7 @@ module _ (w : World) where
       where
         go : isRefused (step w (Write m at) .said) ≡ false → isFine (writeCheck l h m at) ≡ true → (p : Bool) → isPanic m at ≡ p → Accepted w (Write m at)
         go a f true p =
-            record { move = GoesOn (write-exactly w m at .0 a .gated .running) Panics; world = rw (f, p); entry = λ d. rw p; given = λ k. refl }
+            record { move = GoesOn (write-exactly w m at .0 a .gated .running) Panics; world = rw (f, p); entry = λ d. rw p; given = λ k. refl; stays = refl }
         go a f false p =
             let may = write-exactly w m at .0 a in
             record {
@@ -188,6 +197,7 @@ module _ (w : World) where
               world = rw (f, p);
               entry = λ d. rw p;
               given = λ k. refl;
+              stays = refl;
             }
 
     read-moved : Moved w (Read m at)
@@ -197,7 +207,7 @@ module _ (w : World) where
         (λ a f.
         let may = read-exactly w m at .0 a in
         let page = read-page w m at (first-left (readSound l h m at) _ f) in
-        record { move = GoesOn (may .gated .running) (Pays _ (may .budget)); world = rw (f, page); entry = λ d. rw (f, page); given = λ k. refl })
+        record { move = GoesOn (may .gated .running) (Pays _ (may .budget)); world = rw (f, page); entry = λ d. rw (f, page); given = λ k. refl; stays = refl })
 
     open-moved : Moved w (Open m at)
     unfolding step openAnswer openNext settle withWeave opening
@@ -210,6 +220,7 @@ module _ (w : World) where
           world = rw f;
           entry = λ d. refl;
           given = λ k. refl;
+          stays = refl;
         })
 
     next-moved : Moved w (Next m at)
@@ -224,6 +235,7 @@ module _ (w : World) where
           world = rw (f, page);
           entry = λ d. rw (f, page);
           given = λ k. refl;
+          stays = refl;
         })
 
     close-moved : Moved w (Close m at)
@@ -232,11 +244,11 @@ module _ (w : World) where
         settled w (Close m at) (closeCheck l h m at) 0 _ (l .staging) m refl (λ e. (refl, refl)) (close-code w m at) (gate-idle w m (closeAsks w m at))
         (λ a f.
         let may = close-exactly w m at .0 a in
-        record { move = GoesOn (may .gated .running) (Closes (closeHandle m at) (may .handle) (may .budget)); world = rw f; entry = λ d. refl; given = λ k. refl })
+        record { move = GoesOn (may .gated .running) (Closes (closeHandle m at) (may .handle) (may .budget)); world = rw f; entry = λ d. refl; given = λ k. refl; stays = refl })
 
   look-moved : (id : ℕ) → Moved w (LookUp id)
   unfolding step
-  look-moved id = record { move = Rests; world = refl; entry = λ d. refl; given = λ k. refl; refused = λ e. absurd (true≢false (sym e)) }
+  look-moved id = record { move = Rests; world = refl; entry = λ d. refl; given = λ k. refl; returned = refl; refused = λ e. absurd (true≢false (sym e)) }
 
   -- THE THEOREM
   pub moved : (o : Op) → Moved w o

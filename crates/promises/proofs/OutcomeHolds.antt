@@ -79,14 +79,14 @@ none-fine (suc (suc (suc (suc (suc zero))))) = refl
 none-fine (suc (suc (suc (suc (suc (suc zero)))))) = refl
 none-fine (suc (suc (suc (suc (suc (suc (suc n))))))) = refl
 
-good-code : (z : ℤ) → isFine (reasonOf z) ≡ true → (z ≡ pos 0) ⊎ (z ≡ pos 1)
+pub good-code : (z : ℤ) → isFine (reasonOf z) ≡ true → (z ≡ pos 0) ⊎ (z ≡ pos 1)
 unfolding reasonOf
 good-code (pos zero) e = inl refl
 good-code (pos (suc zero)) e = inr refl
 good-code (pos (suc (suc n))) e = absurd (true≢false (sym e ∙ rw (lt-leb (suc (suc n)) 1 (omega arith))))
 good-code (negsuc n) e = absurd (true≢false (sym e ∙ none-fine n))
 
-code-good : (z : ℤ) → (z ≡ pos 0) ⊎ (z ≡ pos 1) → isFine (reasonOf z) ≡ true
+pub code-good : (z : ℤ) → (z ≡ pos 0) ⊎ (z ≡ pos 1) → isFine (reasonOf z) ≡ true
 unfolding reasonOf
 code-good z (inl e) = rw e
 code-good z (inr e) = rw e

@@ -47,7 +47,7 @@ laid-there m at bytes n e = record {
 }
 
 -- a page's bytes in memory are as many as its pageBytes says
-page-long : (at cap : ℕ) (l : List (List ℕ)) → length (shownFrom at (fit cap l)) ≡ pageBytes (pageOf cap l)
+pub page-long : (at cap : ℕ) (l : List (List ℕ)) → length (shownFrom at (fit cap l)) ≡ pageBytes (pageOf cap l)
 unfolding pageOf fit
 page-long at cap [] = length-shownFrom at []
 page-long at cap (r ∷ t) = length-shownFrom at (fit cap (r ∷ t)) ∙ go (leb (length r) cap) refl

@@ -64,7 +64,7 @@ change-tidy w o (Turns i low) t = tidy-none (w .host .weave .opened)
 tidy-move : (w : World) (o : Op) (m : Move w o) → TidyIn w → TidyIn (after w o m)
 unfolding withWeave begun begunWeave freshWeave committed
 tidy-move w o Rests t = t
-tidy-move w o (Begins args i) t = tidy-none 0
+tidy-move w o (Begins args i b) t = tidy-none 0
 tidy-move w o (GoesOn r c) t = change-tidy w o c t
 tidy-move w o (Commits i s code c) t = tidy-none 0
 tidy-move w o (Discards i) t = tidy-none 0

@@ -98,7 +98,7 @@ module _ (w : World) (k : ℕ) (whole out : List (List ℕ)) (f : FollowedIn w k
 
   follow-move : (o : Op) (m : Move w o) → InTurn o → FollowedIn (after w o m) k whole (out ++ handedBy k w o m)
   follow-move o Rests i = still
-  follow-move o (Begins args idle) i = absurd (true≢false (sym (f .runs) ∙ idle))
+  follow-move o (Begins args idle b) i = absurd (true≢false (sym (f .runs) ∙ idle))
   follow-move o (GoesOn r c) i = change-followed o r c i
   follow-move o (Commits never s code c) i = absurd (never i)
   follow-move o (Discards never) i = absurd (never i)

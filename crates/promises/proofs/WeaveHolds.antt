@@ -1,27 +1,32 @@
 -- What begin sets, and that it stays while the weave runs.
 -- Assumes nothing.
 use mathlib.Core.Path.{_≡_, refl, sym, _∙_}
-use mathlib.Core.Bool.{true, false, true≢false}
-use mathlib.Core.List.{List}
-use Prim.Native.Nat.{ℕ}
+use mathlib.Core.Bool.{Bool, true, false, cond, true≢false}
+use mathlib.Core.List.{List, [], _∷_}
+use Prim.Native.Nat.{ℕ, _^_, _<_}
 use native.Mathlib.Omega.{arith}
 use borrow.Author.Tests.{eq-eqb}
+use lib.Dec.{eqb}
 use lib.ListN.{length, length-replicate}
+use Rattle.le.specs.Le.{Bytes, leAt}
+use Rattle.le.proofs.LeLaws.{leAt-lt}
+use Rattle.card.specs.Pick.{All}
 use Rattle.le.specs.Splice.{part, splice, zeros}
 use Rattle.le.proofs.SpliceLaws.{length-part, part-of-splice, length-splice, part-whole}
 use Rattle.weave.specs.declared.Weave.{Weave}
 use Rattle.weave.specs.Moves.{openedWith, movedTo, closedAt}
 use Rattle.weave.specs.States.{freshWeave, begunWeave, paid, holding, tabled, spoilt, turned}
 use Rattle.takes.specs.Begun.{argAt, traceOf, begun}
-use Rattle.host.specs.Hosts.{withWeave, refused, settle}
+use Rattle.host.specs.Hosts.{Lent, withWeave, refused, settle}
 use Rattle.host.specs.Begin.{beginCheck, beginAnswer, beginStaging}
 use Rattle.host.specs.Ending.{committed}
-use Rattle.promises.specs.Box.{World, Op, Begin, step, isRefused}
+use Rattle.promises.specs.Box.{World, Op, Begin, step, isRefused, argsOf, LendsBytes, mountedAs, run}
 use Rattle.promises.specs.Outcome.{Begun, SameWeave}
 use Rattle.promises.proofs.AcceptedLaws.{settle-ok}
 use Rattle.promises.proofs.AcceptedHolds.{begin-exactly}
 use Rattle.promises.proofs.Moves.{Change, Marks, Stages, Writes, Pays, Opens, Hands, Closes, Panics, Turns, Move, Rests, Begins, GoesOn, Commits, Discards, weaveAfter, after}
 use Rattle.promises.proofs.MovesHold.{moved}
+use Rattle.promises.proofs.MountLaws.{mount-fresh}
 
 -- ---- begin
 
@@ -70,7 +75,7 @@ keeps w o (Turns i low) = record { running = refl; resmax = refl; time = refl; t
 stays : (w : World) (o : Op) (m : Move w o) → w .host .weave .running ≡ true → after w o m .host .weave .running ≡ true → SameWeave w (after w o m)
 unfolding withWeave committed freshWeave
 stays w o Rests r q = record { resmax = refl; time = refl; trace = refl }
-stays w o (Begins args i) r q = absurd (true≢false (sym r ∙ i))
+stays w o (Begins args i b) r q = absurd (true≢false (sym r ∙ i))
 stays w o (GoesOn e c) r q = let k = keeps w o c in record { resmax = k .resmax; time = k .time; trace = k .trace }
 stays w o (Commits f s code c) r q = absurd (true≢false (sym q))
 stays w o (Discards f) r q = absurd (true≢false (sym q))
@@ -78,3 +83,26 @@ stays w o (Discards f) r q = absurd (true≢false (sym q))
 -- THE PROMISE: any call of a weave that runs on leaves its budget, its virtual time and its trace
 pub weave-stays : (w : World) (o : Op) → w .host .weave .running ≡ true → step w o .world .host .weave .running ≡ true → SameWeave w (step w o .world)
 weave-stays w o = rw (moved w o .world) (stays w o (moved w o .move))
+
+-- ---- its virtual time is a number of 64 bits
+
+timed : (w : World) (o : Op) → Bytes (argsOf o) → (m : Move w o) → w .host .weave .time .0 < 256 ^ 8 → after w o m .host .weave .time .0 < 256 ^ 8
+unfolding withWeave committed freshWeave begun begunWeave argAt
+timed w o b Rests t = t
+timed w o b (Begins args i f) t = go (eqb (length args) 128)
+  where
+    go : (k : Bool) → cond k (leAt 8 args 48) 0 < 256 ^ 8
+    go true = leAt-lt 8 args 48 (f b)
+    go false = omega arith
+timed w o b (GoesOn e c) t = rw (keeps w o c .time) t
+timed w o b (Commits f s code c) t = omega arith
+timed w o b (Discards f) t = omega arith
+
+timed-run : (os : List Op) (w : World) → All LendsBytes os → w .host .weave .time .0 < 256 ^ 8 → run w os .host .weave .time .0 < 256 ^ 8
+timed-run [] w b t = t
+timed-run (o ∷ os) w b t = timed-run os (step w o .world) (b .1) (rw (moved w o .world) (timed w o (b .0 .args) (moved w o .move) t))
+
+-- (What is lent holds bytes.)
+pub life-timed : (l : Lent) (used : ℕ) (os : List Op) → All LendsBytes os → run (mountedAs l used) os .host .weave .time .0 < 256 ^ 8
+unfolding freshWeave
+life-timed l used os b = timed-run os (mountedAs l used) b (rw (mount-fresh l used) (omega arith))

@@ -6,6 +6,7 @@ use mathlib.Core.List.{List, [], _∷_}
 use Prim.Native.Nat.{ℕ}
 use lib.IntN.{ℤ, pos}
 use lib.ListN.{length, take}
+use Rattle.le.specs.Le.{Bytes}
 use Rattle.card.specs.Records.{records}
 use Rattle.card.specs.Walk.{chainTo}
 use Rattle.weave.specs.declared.Code.{Code}
@@ -112,6 +113,23 @@ memoryOf (Next m a) = m
 memoryOf (Close m a) = m
 memoryOf (Return code) = []
 memoryOf (LookUp id) = []
+
+-- the arguments that are lent to begin; none to the others
+abbrev pub argsOf : Op → List ℕ
+argsOf (Begin args) = args
+argsOf (Ingress topic payload) = []
+argsOf (Write m a) = []
+argsOf (Read m a) = []
+argsOf (Open m a) = []
+argsOf (Next m a) = []
+argsOf (Close m a) = []
+argsOf (Return code) = []
+argsOf (LookUp id) = []
+
+-- what is lent holds bytes
+pub record LendsBytes (o : Op) : Type 0 where
+  pub memory : Bytes (memoryOf o)
+  pub args : Bytes (argsOf o)
 
 -- any sequence of calls: "each call gets card, staging, manifest and state as the last one left them"
 abbrev pub run : World → List Op → World

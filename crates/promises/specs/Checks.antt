@@ -12,7 +12,8 @@ use Rattle.value.specs.declared.Fault.{Fault}
 use Rattle.value.specs.declared.Fault.the-variants.{Fine as NoFault, Outside, Unfit}
 use Rattle.manifest.specs.Saying.{isGood, modulesSaid, manifestOf, mayRead, mayWrite}
 use Rattle.card.specs.Walk.{chainTo}
-use Rattle.card.specs.Listing.{pageOf}
+use Rattle.card.specs.Listing.{fit, pageOf}
+use Rattle.card.specs.Records.{size}
 use Rattle.card.specs.declared.Page.{Page}
 use Rattle.weave.specs.declared.Code.{Code}
 use Rattle.weave.specs.declared.Code.the-variants.{Fine, Denied, NotNow, Unsound, NoRoom, Bad, Budget, BadValue}
@@ -170,3 +171,19 @@ checksOf w (Close m a) = gate w m ++ closeAsks w m a
 -- "Return has checks 1 and 2 only; look-up has check 1 only", and gives no code
 checksOf w (Return code) = lentAsked w ∷ check (w .host .weave .running) NotNow ∷ []
 checksOf w (LookUp id) = []
+
+-- ---- what an accepted call answers
+
+abbrev pub answers : World → Op → ℕ
+answers w (Begin args) = 0
+answers w (Ingress topic payload) = 0
+answers w (Write m a) = 0
+-- "Answers the bytes written, 0 when none is left"
+answers w (Read m a) = size (fit (readArgs m a .out .len) (readList (w .lent) (w .host) m a))
+-- "handle numbers 1, 2, 3 .. within the weave"
+answers w (Open m a) = w .host .weave .opened + 1
+answers w (Next m a) = size (fit (nextArgs m a .out .len) (nextList (w .lent) (w .host) (nextArgs m a .handle)))
+answers w (Close m a) = 0
+-- a return answers its fate, and a look-up the part that it shows
+answers w (Return code) = 0
+answers w (LookUp id) = 0

@@ -3,14 +3,14 @@
 -- Assumes nothing.
 use mathlib.Core.Path.{_≡_}
 use mathlib.Core.Bool.{Bool, true, false, cond}
-use mathlib.Core.List.{List, [], _∷_, _++_}
+use mathlib.Core.List.{List, [], _∷_, _++_, List·Memᴰ}
 use Prim.Native.Nat.{ℕ, _≤_, _<_}
 use lib.Dec.{eqb}
-use lib.ListN.{length}
+use lib.ListN.{length, take}
 use Rattle.text.specs.Compare.{prefixOf}
 use Rattle.record.specs.Record.{idOf, topicOf}
-use Rattle.card.specs.Pick.{only}
-use Rattle.card.specs.Listing.{filterOf}
+use Rattle.card.specs.Pick.{All, Sorted, only}
+use Rattle.card.specs.Listing.{filterOf, listOf, Before}
 use Rattle.card.specs.declared.Cursor.{Cursor}
 use Rattle.weave.specs.declared.Slot.{Slot}
 use Rattle.weave.specs.Table.{hasHandle}
@@ -95,6 +95,15 @@ pub record Allowed (may : List ℕ → Bool) (c : Cursor) (r : List ℕ) : Type 
   -- "Window: start ≤ id < end"
   pub from : c .from .0 ≤ idOf r
   pub to : idOf r < c .to .0
+
+-- of the events rs these are all that are allowed: every one, none besides, each once, in the asked order; and a cursor lists the first of them
+pub record ListedOf (may : List ℕ → Bool) (c : Cursor) (rs all : List (List ℕ)) : Type 0 where
+  pub every : (r : List ℕ) → List·Memᴰ r rs → Allowed may c r → List·Memᴰ r all
+  pub of-these : All (λ (r : List ℕ). List·Memᴰ r rs) all
+  pub none-besides : All (Allowed may c) all
+  pub in-order : Sorted (Before (c .desc)) all
+  -- "The limit counts from the list's head"
+  pub head : listOf may c rs ≡ take (c .limit) all
 
 -- the cursor c is the one that the open at a of memory m asks for
 pub record AskedBy (m : List ℕ) (a : ℕ) (c : Cursor) : Type 0 where
