@@ -31,7 +31,7 @@ unfolding settle
 value-is h c v next e = rw (settle-ok h c v next e)
 
 -- a page's bytes are its records'
-page-bytes : (cap : ℕ) (rs : List (List ℕ)) → pageBytes (pageOf cap rs) ≡ size (fit cap rs)
+pub page-bytes : (cap : ℕ) (rs : List (List ℕ)) → pageBytes (pageOf cap rs) ≡ size (fit cap rs)
 page-bytes cap rs = sym (page-long 0 cap rs) ∙ length-shownFrom 0 (fit cap rs)
 
 -- THE PROMISE

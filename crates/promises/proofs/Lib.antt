@@ -1,4 +1,3 @@
-pub mod EdgesHold
 pub mod RefusalHolds
 pub mod AcceptedLaws
 pub mod OutcomeHolds
@@ -30,3 +29,6 @@ pub mod ReturnHolds
 pub mod TurnsCount
 pub mod AnswersHold
 pub mod MountHolds
+pub mod ReadHolds
+pub mod NextSays
+pub mod EdgesHold

@@ -20,7 +20,7 @@ use Rattle.card.proofs.PickLaws.{all-map, all-only, all-reverse, mem-only, mem-
 use Rattle.promises.specs.Turn.{Allowed, ListedOf}
 
 module _ (may : List ℕ → Bool) (c : Cursor) where
-  listed-means : (r : List ℕ) → listed may c r ≡ true → Allowed may c r
+  pub listed-means : (r : List ℕ) → listed may c r ≡ true → Allowed may c r
   listed-means r e =
       let asks = and-right (may (topicOf r)) _ e in
       let window = and-right (prefixOf (filterOf c) (topicOf r)) _ asks in
@@ -57,7 +57,7 @@ module _ (may : List ℕ → Bool) (c : Cursor) where
 
 -- ---- all that are allowed, and the limit
 
-members : (rs : List (List ℕ)) → All (λ (r : List ℕ). List·Memᴰ r rs) rs
+pub members : (rs : List (List ℕ)) → All (λ (r : List ℕ). List·Memᴰ r rs) rs
 members [] = tt
 members (r ∷ rs) = (List·Memᴰ·head refl, all-map (λ (x : List ℕ). List·Memᴰ x rs) (λ (x : List ℕ). List·Memᴰ x (r ∷ rs)) (λ x m. List·Memᴰ·tail m) rs (members rs))
 

@@ -70,7 +70,7 @@ fit-some cap r t e = rw e (omega arith)
 
 -- what an accepted page of the list rs answers
 module _ (cap : ℕ) where
-  page-zero : (rs : List (List ℕ)) → All Long rs → isFine (pageCode (pageOf cap rs)) ≡ true → pageBytes (pageOf cap rs) ≡ 0 → rs ≡ []
+  pub page-zero : (rs : List (List ℕ)) → All Long rs → isFine (pageCode (pageOf cap rs)) ≡ true → pageBytes (pageOf cap rs) ≡ 0 → rs ≡ []
   unfolding pageOf
   page-zero [] a c z = refl
   page-zero (r ∷ t) a c z = go (tested (leb (length r) cap)) c z
@@ -88,7 +88,7 @@ module _ (cap : ℕ) where
       go (passes e) c = fit-some cap r t e
       go (fails e) c = absurd (true≢false (sym (rw e at c)))
 
-  zero-page : (rs : List (List ℕ)) → rs ≡ [] → pageBytes (pageOf cap rs) ≡ 0
+  pub zero-page : (rs : List (List ℕ)) → rs ≡ [] → pageBytes (pageOf cap rs) ≡ 0
   unfolding pageOf
   zero-page rs e = rw e
 

@@ -29,15 +29,15 @@ use Rattle.host.specs.Hosts.{Lent, lentAs, lengthsOf, withWeave, lentCheck}
 use Rattle.host.specs.Stage.{headerFor, isPanic, writtenTopic}
 use Rattle.host.specs.Mount.{mounted}
 use Rattle.host.specs.Paging.{nextPart, nextAnswer, nextCheck}
-use Rattle.host.specs.Reading.{readList, readAnswer, readCheck}
-use Rattle.promises.specs.Box.{World, recordsOn, cardRecords, LendsBytes, Op, Begin, Ingress, Write, Read, Open, Next, Close, Return, LookUp, Answered, Ended, Part, step, isRefused, codeOf, saidNumber, memoryOf, mountedAs, run}
+use Rattle.host.specs.Reading.{readTopic, readList, readAnswer, readCheck}
+use Rattle.promises.specs.Box.{World, recordsOn, cardRecords, stagedRecords, LendsBytes, Op, Begin, Ingress, Write, Read, Open, Next, Close, Return, LookUp, Answered, Ended, Part, step, isRefused, codeOf, saidNumber, memoryOf, mountedAs, run}
 use Rattle.promises.specs.Refusal.{Unchanged, OnlyThere}
 use Rattle.promises.specs.Checks.{Passed, failing, checksOf, answers}
 use Rattle.promises.specs.Mounting.{mountChecks, StateOf, noLengths}
 use Rattle.promises.specs.Accepted.{BeginMay, IngressMay, WriteMay, ReadMay, OpenMay, NextMay, CloseMay}
-use Rattle.promises.specs.Outcome.{Conditions, Unhindered, moduleCount, Reason, nextTurn, returnsIn, RunsOn, SameCard, saysCommitted, NoneCommitted, Appended, butFaulted, PanicLeft, Begun, SameWeave}
+use Rattle.promises.specs.Outcome.{Conditions, InNumbers, Unhindered, moduleCount, Reason, nextTurn, returnsIn, RunsOn, SameCard, saysCommitted, NoneCommitted, Appended, butFaulted, PanicLeft, Begun, SameWeave}
 use Rattle.promises.specs.Diary.{Diary, answerOf, ingressRecord, writtenRecord, firstPage, diary, Agrees}
-use Rattle.promises.specs.ReadBack.{HasPage}
+use Rattle.promises.specs.ReadBack.{HasPage, ReadOf}
 use Rattle.promises.specs.Turn.{InTurn, handedOver, listLeft, FirstPart, Nexts, Allowed, ListedOf, AskedBy}
 use Rattle.promises.proofs.RefusalHolds.{next-there, read-there}
 use Rattle.promises.proofs.MovesHold.{moved}
@@ -48,13 +48,14 @@ use Rattle.promises.proofs.OutcomeHolds.{committed-exactly}
 use Rattle.promises.proofs.CardHolds.{only-commit, commit-appends, discard-restores}
 use Rattle.promises.proofs.DiaryHolds.{lends-memory, life-agrees}
 use Rattle.promises.proofs.ReadBackHolds.{write-reads-back, ingress-reads-back, kept-found, staged-found, page-stands, read-page-stands}
+use Rattle.promises.proofs.ReadHolds.{read-lists, read-zero}
 use Rattle.promises.proofs.IdleHolds.{life-idle}
 use Rattle.promises.proofs.LifeHolds.{life-sane}
 use Rattle.promises.proofs.WeaveHolds.{begin-sets, weave-stays, life-timed}
 use Rattle.promises.proofs.ChecksHold.{code-is, accepted-exactly}
 use Rattle.promises.proofs.AnswersHold.{answers-are}
 use Rattle.promises.proofs.MountHolds.{mounts}
-use Rattle.promises.proofs.ReturnHolds.{discarded-exactly, running-exactly, turn-passes}
+use Rattle.promises.proofs.ReturnHolds.{in-numbers, discarded-exactly, running-exactly, turn-passes}
 use Rattle.promises.proofs.TurnsCount.{turn-counted}
 use Rattle.promises.proofs.TidyHolds.{life-tidy}
 use Rattle.promises.proofs.PagesHold.{open-lists, first-part, end-exactly, drained}
@@ -161,6 +162,10 @@ pub the-next-module-has-its-turn : (w : World) (code : ℤ) → step w (Return c
     → step w (Return code) .world ≡ record { host = withWeave (w .host) (nextTurn (w .host .weave)); lent = w .lent }
 the-next-module-has-its-turn = turn-passes
 
+-- "refused with document 01's number", "discard with its reason", "The outcome gives events and bytes": a return's answer in numbers
+pub a-return-in-numbers : (w : World) (code : ℤ) → InNumbers w code (step w (Return code) .said)
+a-return-in-numbers = in-numbers
+
 -- the turn is one more than the accepted returns since begin, and these are fewer than the modules while the weave runs: with the last of them at the latest it
 -- ends
 pub a-weave-ends-with-its-last-module : (w : World) (args : List ℕ) → isRefused (step w (Begin args) .said) ≡ false → (os : List Op) → RunsOn (step w (Begin args) .world) os
@@ -248,6 +253,14 @@ a-page-stands-in-memory = page-stands
 pub a-read-page-stands-in-memory : (w : World) (m : List ℕ) (at : ℕ) → isRefused (step w (Read m at) .said) ≡ false
     → HasPage (step w (Read m at) .memory) (readArgs m at .out .ptr) (fit (readArgs m at .out .len) (readList (w .lent) (w .host) m at))
 a-read-page-stands-in-memory = read-page-stands
+
+-- a read lists the "staged events with exactly that topic, .. id at least start, in order" and "answers the bytes written, 0 when none is left"
+pub a-read-lists : (w : World) (m : List ℕ) (at : ℕ) → ReadOf (readTopic m at) (readArgs m at .start .0) (stagedRecords w) (readList (w .lent) (w .host) m at)
+a-read-lists = read-lists
+
+pub a-read-answers-0-exactly-when-none-is-left : (w : World) (m : List ℕ) (at : ℕ) → isRefused (step w (Read m at) .said) ≡ false
+    → (answerOf (step w (Read m at) .said) ≡ 0) ↔ (readList (w .lent) (w .host) m at ≡ [])
+a-read-answers-0-exactly-when-none-is-left = read-zero
 
 -- ==== 3. "Paging is complete"
 

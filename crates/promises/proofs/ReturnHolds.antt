@@ -24,9 +24,11 @@ use Rattle.host.specs.declared.Fate.the-variants.{Discarded, Running}
 use Rattle.host.specs.Hosts.{withWeave, lentCheck}
 use Rattle.host.specs.Ending.{returnCheck, whyNot, lastCheck, fateOf, finished, returnAnswer, returnCard, returnStaging}
 use Rattle.promises.specs.Box.{World, Return, Ended, step}
-use Rattle.promises.specs.Outcome.{Returns, Unhindered, moduleCount, stagedChained, Reason, overspent, panicked, own, other, unsound, no-room, nextTurn}
+use Rattle.promises.specs.Outcome.{Returns, Unhindered, moduleCount, stagedChained, InNumbers, Reason, overspent, panicked, own, other, unsound, no-room, nextTurn}
 use Rattle.promises.proofs.AcceptedLaws.{lawful}
-use Rattle.promises.proofs.OutcomeHolds.{Fated, turned-away, has-reason, turns-on, ends-badly, ends-well, fated, fateIn, return-runs, unspoilt, good-code, code-good}
+use Rattle.promises.proofs.OutcomeHolds.{Fated, turned-away, has-reason, turns-on, ends-badly, ends-well, fated, fateIn, return-runs, unspoilt, good-code, code-good, committed-exactly}
+use Rattle.promises.proofs.AskedHolds.{refusal-number}
+use Rattle.promises.proofs.ChecksHold.{code-is}
 
 -- ---- codes and numbers
 
@@ -179,3 +181,12 @@ module _ (w : World) (code : ℤ) where
   turn-passes e =
       let q = ap fateIn e in
       rw (q, splice-nil, added-sum (w .host .weave .turn) 1 16 (omega (arith, goes-on q .1, sized (w .lent .text) .most)))
+
+  -- THE PROMISE, in numbers
+  pub in-numbers : InNumbers w code (step w (Return code) .said)
+  in-numbers = record {
+    refused = λ e. refusal-number (step w (Return code) .said) e ∙ ap number (code-is w (Return code));
+    discarded = λ c r. rw (discarded-exactly c .1 r) (refl, (refl, refl));
+    running = λ u l. rw (running-exactly .1 (u, l)) (refl, (refl, refl));
+    committed = λ c. rw (committed-exactly w code _ _ .1 (c, (refl, refl))) (refl, (refl, refl));
+  }

@@ -17,7 +17,7 @@ use Rattle.host.specs.declared.Answer.{Answer}
 use Rattle.host.specs.declared.Fate.{Fate}
 use Rattle.host.specs.declared.Fate.the-variants.{Refused, Discarded, Running, Committed}
 use Rattle.host.specs.Hosts.{Lent, lentAs}
-use Rattle.host.specs.Fates.{fateNumber}
+use Rattle.host.specs.Fates.{fateNumber, fateEvents, kept}
 use Rattle.host.specs.Begin.{beginAnswer, beginStaging}
 use Rattle.host.specs.Stage.{ingressAnswer, ingressStaging, writeAnswer, writeStaging}
 use Rattle.host.specs.Reading.{readAnswer, readMemory}
@@ -147,6 +147,17 @@ abbrev pub saidNumber : Said → ℤ
 saidNumber (Answered c v) = cond (isFine c) (pos v) (number c)
 saidNumber (Ended f) = fateNumber f
 saidNumber (Part bytes) = pos (length bytes)
+
+-- "The outcome gives events and bytes"; no other answer does
+abbrev pub saidEvents : Said → ℕ
+saidEvents (Answered c v) = 0
+saidEvents (Ended f) = fateEvents f
+saidEvents (Part bytes) = 0
+
+abbrev pub saidBytes : Said → ℕ
+saidBytes (Answered c v) = 0
+saidBytes (Ended f) = kept f
+saidBytes (Part bytes) = 0
 
 -- refused: a code is given. "Discards are outcomes", and a look-up gives no code
 abbrev pub isRefused : Said → Bool

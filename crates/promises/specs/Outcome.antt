@@ -21,7 +21,8 @@ use Rattle.weave.specs.States.{freshWeave}
 use Rattle.host.specs.declared.Host.{Host}
 use Rattle.host.specs.declared.Fate.the-variants.{Refused, Discarded, Running, Committed}
 use Rattle.host.specs.Hosts.{Lent, lentCheck}
-use Rattle.promises.specs.Box.{World, stagedPart, Op, Said, Answered, Ended, Part, Step, step, saidNumber}
+use Rattle.promises.specs.Box.{World, stagedPart, Op, Return, isRefused, saidEvents, saidBytes, Said, Answered, Ended, Part, Step, step, saidNumber}
+use Rattle.promises.specs.Checks.{failing, checksOf}
 use Rattle.promises.specs.Refusal.{OnlyThere}
 
 -- 01's conditions, in the order in which it gives them
@@ -73,6 +74,13 @@ pub data Reason (w : World) (code : ℤ) : Code → Type 0 where
   unsound : Unhindered w code → w .host .weave .turn ≡ moduleCount w → stagedChained w ≡ false → Reason w code Unsound
   no-room : Unhindered w code → w .host .weave .turn ≡ moduleCount w → stagedChained w ≡ true → length (w .lent .card) < w .host .used + w .host .weave .staged
       → Reason w code NoRoom
+
+-- what a return answers, in 01's numbers: its code, "discard with its reason", or 0; and "The outcome gives events and bytes"
+pub record InNumbers (w : World) (code : ℤ) (s : Said) : Type 0 where
+  pub refused : isRefused s ≡ true → saidNumber s ≡ number (failing (checksOf w (Return code)))
+  pub discarded : (c : Code) → Reason w code c → (saidNumber s ≡ number c) × ((saidEvents s ≡ 0) × (saidBytes s ≡ 0))
+  pub running : Unhindered w code → w .host .weave .turn < moduleCount w → (saidNumber s ≡ pos 0) × ((saidEvents s ≡ 0) × (saidBytes s ≡ 0))
+  pub committed : Conditions (w .lent) (w .host) code → (saidNumber s ≡ pos 0) × ((saidEvents s ≡ w .host .weave .count) × (saidBytes s ≡ w .host .weave .staged))
 
 -- "Otherwise the next module has its turn"; "Cursors close at each return"; and ingress is too late
 abbrev pub nextTurn : Weave → Weave
