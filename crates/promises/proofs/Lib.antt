@@ -19,7 +19,6 @@ pub mod Promises
 pub mod AcceptedHolds
 pub mod AskedHolds
 pub mod LifeHolds
-pub mod IdleHolds
 pub mod WeaveHolds
 pub mod Moves
 pub mod MovesHold

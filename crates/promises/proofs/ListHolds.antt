@@ -37,13 +37,9 @@ module _ (may : List ℕ → Bool) (c : Cursor) where
       (and-both (prefixOf (filterOf c) (topicOf r)) _ (a .begins)
       (and-both (leb (c .from .0) (idOf r)) _ (le-leb (c .from .0) (idOf r) (a .from)) (lt-ltb (idOf r) (c .to .0) (a .to))))
 
-  all-means : (rs : List (List ℕ)) → All (λ (r : List ℕ). listed may c r ≡ true) rs → All (Allowed may c) rs
-  all-means [] a = tt
-  all-means (r ∷ rs) a = (listed-means r (a .0), all-means rs (a .1))
-
   -- every event of the list is allowed
   pub all-allowed : (rs : List (List ℕ)) → All (Allowed may c) (listOf may c rs)
-  all-allowed rs = all-means (listOf may c rs) (listed-all may c rs)
+  all-allowed rs = all-map (λ (r : List ℕ). listed may c r ≡ true) (Allowed may c) listed-means (listOf may c rs) (listed-all may c rs)
 
   -- every event that is allowed is in the list, where the limit does not cut it
   pub every-allowed : (rs : List (List ℕ)) (r : List ℕ) → List·Memᴰ r rs → Allowed may c r → length (only (listed may c) (turn (c .desc) rs)) ≤ c .limit
@@ -76,7 +72,7 @@ unfolding listOf
 all-listed may c rs up = record {
   every = λ r m a. mem-only (listed may c) r (turn (c .desc) rs) (means-listed may c r a) (turned-mem r (c .desc) rs m);
   of-these = all-only (λ (r : List ℕ). List·Memᴰ r rs) (listed may c) (turn (c .desc) rs) (turned-all (λ (r : List ℕ). List·Memᴰ r rs) (c .desc) rs (members rs));
-  none-besides = all-means may c (only (listed may c) (turn (c .desc) rs)) (only-passes (listed may c) (turn (c .desc) rs));
+  none-besides = all-map (λ (r : List ℕ). listed may c r ≡ true) (Allowed may c) (listed-means may c) (only (listed may c) (turn (c .desc) rs)) (only-passes (listed may c) (turn (c .desc) rs));
   in-order = sorted-only (Before (c .desc)) (listed may c) (turn (c .desc) rs) (sorted-turn (c .desc) rs up);
   head = refl;
 }

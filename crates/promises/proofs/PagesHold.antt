@@ -49,7 +49,7 @@ use Rattle.promises.proofs.TurnHolds.{FollowedIn, follow-step, follow-r
 abbrev pub Long : List ℕ → Type 0
 Long r = 136 ≤ length r
 
-all-at : (P : List ℕ → Type 0) (rs : List (List ℕ)) → ((k : ℕ) → k < length rs → P (getD rs k [])) → All P rs
+pub all-at : (P : List ℕ → Type 0) (rs : List (List ℕ)) → ((k : ℕ) → k < length rs → P (getD rs k [])) → All P rs
 all-at P [] f = tt
 all-at P (r ∷ rs) f = (f 0 (omega arith), all-at P rs (λ k h. f (suc k) (omega arith)))
 

@@ -49,9 +49,8 @@ use Rattle.promises.proofs.CardHolds.{only-commit, commit-appends, disc
 use Rattle.promises.proofs.DiaryHolds.{lends-memory, life-agrees}
 use Rattle.promises.proofs.ReadBackHolds.{write-reads-back, ingress-reads-back, kept-found, staged-found, page-stands, read-page-stands}
 use Rattle.promises.proofs.ReadHolds.{read-lists, read-zero}
-use Rattle.promises.proofs.IdleHolds.{life-idle}
 use Rattle.promises.proofs.LifeHolds.{life-sane}
-use Rattle.promises.proofs.WeaveHolds.{begin-sets, weave-stays, life-timed}
+use Rattle.promises.proofs.WeaveHolds.{begin-sets, weave-stays, life-idle, life-timed}
 use Rattle.promises.proofs.ChecksHold.{code-is, accepted-exactly}
 use Rattle.promises.proofs.AnswersHold.{answers-are}
 use Rattle.promises.proofs.MountHolds.{mounts}

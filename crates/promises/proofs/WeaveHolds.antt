@@ -1,4 +1,4 @@
--- What begin sets, and that it stays while the weave runs.
+-- What begin sets, that it stays while the weave runs, and that a box without one keeps nothing of it.
 -- Assumes nothing.
 use mathlib.Core.Path.{_≡_, refl, sym, _∙_}
 use mathlib.Core.Bool.{Bool, true, false, cond, true≢false}
@@ -83,6 +83,27 @@ stays w o (Discards f) r q = absurd (true≢false (sym q))
 -- THE PROMISE: any call of a weave that runs on leaves its budget, its virtual time and its trace
 pub weave-stays : (w : World) (o : Op) → w .host .weave .running ≡ true → step w o .world .host .weave .running ≡ true → SameWeave w (step w o .world)
 weave-stays w o = rw (moved w o .world) (stays w o (moved w o .move))
+
+-- ---- while none runs, nothing of one is kept
+
+abbrev Idle : World → Type 0
+Idle w = w .host .weave .running ≡ false → w .host .weave ≡ freshWeave
+
+idle-move : (w : World) (o : Op) (m : Move w o) → Idle w → Idle (after w o m)
+unfolding withWeave begun begunWeave committed
+idle-move w o Rests i = i
+idle-move w o (Begins args e b) i = λ q. absurd (true≢false q)
+idle-move w o (GoesOn r c) i = λ q. absurd (true≢false (sym r ∙ sym (keeps w o c .running) ∙ q))
+idle-move w o (Commits f s code c) i = λ q. refl
+idle-move w o (Discards f) i = λ q. refl
+
+idle-run : (os : List Op) (w : World) → Idle w → Idle (run w os)
+idle-run [] w i = i
+idle-run (o ∷ os) w i = idle-run os (step w o .world) (rw (moved w o .world) (idle-move w o (moved w o .move) i))
+
+-- THE PROMISE: while no weave is running the state has nothing of one
+pub life-idle : (l : Lent) (used : ℕ) (os : List Op) → run (mountedAs l used) os .host .weave .running ≡ false → run (mountedAs l used) os .host .weave ≡ freshWeave
+life-idle l used os = idle-run os (mountedAs l used) (λ q. mount-fresh l used)
 
 -- ---- its virtual time is a number of 64 bits
 
