@@ -22,7 +22,7 @@ use Rattle.promises.specs.Outcome.{SameCard, saysCommitted, NoneCommitte
 use Rattle.promises.proofs.RefusalHolds.{laid-there}
 use Rattle.promises.proofs.AcceptedLaws.{lawful}
 use Rattle.promises.proofs.OutcomeHolds.{fateIn, conditions}
-use Rattle.promises.proofs.Moves.{Move, Rests, Begins, GoesOn, Commits, Discards, after}
+use Rattle.promises.proofs.MoveLaws.{Move, Rests, Begins, GoesOn, Commits, Discards, after}
 use Rattle.promises.proofs.MovesHold.{moved}
 
 -- ---- nothing but a commit changes the card

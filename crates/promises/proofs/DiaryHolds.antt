@@ -31,7 +31,7 @@ use Rattle.promises.specs.Box.{World, Op, step, memoryOf, LendsBytes, mo
 use Rattle.promises.specs.Diary.{Diary, entered, diary, firstPage, Agrees}
 use Rattle.promises.proofs.AcceptedLaws.{lawful}
 use Rattle.promises.proofs.StagedLaws.{Stageable}
-use Rattle.promises.proofs.Moves.{Affords, Change, Marks, Stages, Writes, Pays, Opens, Hands, Closes, Panics, Turns, Move, Rests, Begins, GoesOn, Commits, Discards, weaveAfter, stagingAfter, entryOf, after, entryBy}
+use Rattle.promises.proofs.MoveLaws.{Affords, Change, Marks, Stages, Writes, Pays, Opens, Hands, Closes, Panics, Turns, Move, Rests, Begins, GoesOn, Commits, Discards, weaveAfter, stagingAfter, entryOf, after, entryBy}
 use Rattle.promises.proofs.MovesHold.{moved}
 use Rattle.promises.proofs.MountLaws.{MountFine, mount-fine}
 use Rattle.promises.proofs.WeaveHolds.{keeps}

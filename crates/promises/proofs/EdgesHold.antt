@@ -36,7 +36,7 @@ use Rattle.host.specs.Ending.{returnCheck, whyNot, fateOf, returnAnswer}
 use Rattle.promises.specs.Box.{World, Return, Ended, step}
 use Rattle.promises.specs.Outcome.{Returns}
 use Rattle.promises.specs.Turn.{listLeft}
-use Rattle.promises.proofs.NextSays.{pageSays, next-says, two-left, window-none, limit-none}
+use Rattle.promises.proofs.NextHolds.{pageSays, next-says, two-left, window-none, limit-none}
 use Rattle.promises.specs.Edges.{Case, total, stored, flags, span, float, topic, text, window, twoLeft, returned, Holds, edges}
 
 -- ---- answers that are found the same are equal

@@ -32,7 +32,7 @@ use Rattle.host.specs.Mount.{freshHost, mounted}
 use Rattle.promises.specs.Box.{World, recordsOn, Op, step, memoryOf, mountedAs, run}
 use Rattle.promises.specs.Diary.{Diary, Agrees, entered, diary, firstPage}
 use Rattle.promises.proofs.StagedLaws.{Stageable}
-use Rattle.promises.proofs.Moves.{Change, Marks, Stages, Writes, Pays, Opens, Hands, Closes, Panics, Turns, Move, Rests, Begins, GoesOn, Commits, Discards, weaveAfter, stagingAfter, after}
+use Rattle.promises.proofs.MoveLaws.{Change, Marks, Stages, Writes, Pays, Opens, Hands, Closes, Panics, Turns, Move, Rests, Begins, GoesOn, Commits, Discards, weaveAfter, stagingAfter, after}
 use Rattle.promises.proofs.MovesHold.{moved}
 use Rattle.promises.proofs.MountLaws.{MountFine, mount-fine}
 use Rattle.promises.proofs.DiaryHolds.{agrees-step, mount-agrees, life-agrees}

@@ -34,7 +34,7 @@ use Rattle.promises.proofs.ChecksHold.{Comes, begin-code, ingress-code,
 use Rattle.promises.proofs.AcceptedHolds.{begin-exactly, ingress-exactly, write-exactly, read-exactly, open-exactly, next-exactly, close-exactly, next-page, read-page}
 use Rattle.promises.proofs.OutcomeHolds.{Fated, turned-away, has-reason, turns-on, ends-badly, ends-well, fated, return-runs, conditions}
 use Rattle.promises.proofs.StagedLaws.{ingress-staged, write-staged}
-use Rattle.promises.proofs.Moves.{Marks, Stages, Writes, Pays, Opens, Hands, Closes, Panics, Turns, Move, Rests, Begins, GoesOn, Commits, Discards, after, entryBy, handedBy, endsTurn, Moved}
+use Rattle.promises.proofs.MoveLaws.{Marks, Stages, Writes, Pays, Opens, Hands, Closes, Panics, Turns, Move, Rests, Begins, GoesOn, Commits, Discards, after, entryBy, handedBy, endsTurn, Moved}
 
 -- ---- a -6 is said in a weave alone
 

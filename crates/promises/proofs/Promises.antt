@@ -55,7 +55,7 @@ use Rattle.promises.proofs.ChecksHold.{code-is, accepted-exactly}
 use Rattle.promises.proofs.AnswersHold.{answers-are}
 use Rattle.promises.proofs.MountHolds.{mounts}
 use Rattle.promises.proofs.ReturnHolds.{in-numbers, discarded-exactly, running-exactly, turn-passes}
-use Rattle.promises.proofs.TurnsCount.{turn-counted}
+use Rattle.promises.proofs.CountHolds.{turn-counted}
 use Rattle.promises.proofs.TidyHolds.{life-tidy}
 use Rattle.promises.proofs.PagesHold.{open-lists, first-part, end-exactly, drained}
 use Rattle.promises.proofs.ListHolds.{all-allowed, every-allowed, within-limit, all-listed}

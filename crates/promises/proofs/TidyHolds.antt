@@ -22,7 +22,7 @@ use Rattle.host.specs.Ending.{committed}
 use Rattle.promises.specs.Box.{World, Op, step, mountedAs, run}
 use Rattle.promises.specs.Turn.{Tidy, TidyIn}
 use Rattle.promises.proofs.TurnLaws.{tidy-none, tidy-free, tidy-moved, tidy-opened}
-use Rattle.promises.proofs.Moves.{Change, Marks, Stages, Writes, Pays, Opens, Hands, Closes, Panics, Turns, Move, Rests, Begins, GoesOn, Commits, Discards, weaveAfter, after}
+use Rattle.promises.proofs.MoveLaws.{Change, Marks, Stages, Writes, Pays, Opens, Hands, Closes, Panics, Turns, Move, Rests, Begins, GoesOn, Commits, Discards, weaveAfter, after}
 use Rattle.promises.proofs.MovesHold.{moved}
 use Rattle.promises.proofs.MountLaws.{mount-fresh}
 

@@ -21,7 +21,7 @@ use Rattle.promises.specs.Box.{World, Op, step, run}
 use Rattle.promises.specs.Turn.{InTurn, givenBy, handedOver}
 use Rattle.promises.proofs.SlotLaws.{place-passes}
 use Rattle.promises.proofs.TurnLaws.{other-handle, handle-is, free-handle, tidy-free, tidy-moved, tidy-opened, Followed, append-nil, follow-still, follow-other, follow-own, follow-shut}
-use Rattle.promises.proofs.Moves.{Change, Marks, Stages, Writes, Pays, Opens, Hands, Closes, Panics, Turns, Move, Rests, Begins, GoesOn, Commits, Discards, after, handedOn, handedBy}
+use Rattle.promises.proofs.MoveLaws.{Change, Marks, Stages, Writes, Pays, Opens, Hands, Closes, Panics, Turns, Move, Rests, Begins, GoesOn, Commits, Discards, after, handedOn, handedBy}
 use Rattle.promises.proofs.MovesHold.{moved}
 use Rattle.promises.proofs.TidyHolds.{handle-new, handle-there}
 

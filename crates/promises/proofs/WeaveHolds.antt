@@ -24,7 +24,7 @@ use Rattle.promises.specs.Box.{World, Op, Begin, step, isRefused, argsOf
 use Rattle.promises.specs.Outcome.{Begun, SameWeave}
 use Rattle.promises.proofs.AcceptedLaws.{settle-ok}
 use Rattle.promises.proofs.AcceptedHolds.{begin-exactly}
-use Rattle.promises.proofs.Moves.{Change, Marks, Stages, Writes, Pays, Opens, Hands, Closes, Panics, Turns, Move, Rests, Begins, GoesOn, Commits, Discards, weaveAfter, after}
+use Rattle.promises.proofs.MoveLaws.{Change, Marks, Stages, Writes, Pays, Opens, Hands, Closes, Panics, Turns, Move, Rests, Begins, GoesOn, Commits, Discards, weaveAfter, after}
 use Rattle.promises.proofs.MovesHold.{moved}
 use Rattle.promises.proofs.MountLaws.{mount-fresh}
 

@@ -16,7 +16,7 @@ use Rattle.promises.specs.Box.{World, Op, Begin, step, isRefused, run}
 use Rattle.promises.specs.Outcome.{moduleCount, returnsIn, RunsOn}
 use Rattle.promises.proofs.AcceptedLaws.{lawful}
 use Rattle.promises.proofs.AcceptedHolds.{begin-exactly}
-use Rattle.promises.proofs.Moves.{Change, Marks, Stages, Writes, Pays, Opens, Hands, Closes, Panics, Turns, Move, Rests, Begins, GoesOn, Commits, Discards, weaveAfter, turnsBy, after, endsTurn}
+use Rattle.promises.proofs.MoveLaws.{Change, Marks, Stages, Writes, Pays, Opens, Hands, Closes, Panics, Turns, Move, Rests, Begins, GoesOn, Commits, Discards, weaveAfter, turnsBy, after, endsTurn}
 use Rattle.promises.proofs.MovesHold.{moved}
 use Rattle.promises.proofs.WeaveHolds.{begin-sets}
 
