@@ -28,6 +28,7 @@ pub mod ListHolds
 pub mod NextHolds
 pub mod EdgesHold
 pub mod CommitRuns
+pub mod TwoRuns
 pub mod Promises
 pub mod ContractsHold
 pub mod Determined

@@ -31,7 +31,7 @@ module _ (may : List ℕ → Bool) (c : Cursor) where
         to = ltb-true (idOf r) (c .to .0) (and-right (leb (c .from .0) (idOf r)) _ window);
       }
 
-  means-listed : (r : List ℕ) → Allowed may c r → listed may c r ≡ true
+  pub means-listed : (r : List ℕ) → Allowed may c r → listed may c r ≡ true
   means-listed r a =
       and-both (may (topicOf r)) _ (a .granted)
       (and-both (prefixOf (filterOf c) (topicOf r)) _ (a .begins)

@@ -59,6 +59,8 @@ use Rattle.promises.proofs.CountHolds.{turn-counted}
 use Rattle.promises.proofs.TidyHolds.{life-tidy}
 use Rattle.promises.proofs.PagesHold.{open-lists, first-part, end-exactly, drained}
 use Rattle.promises.proofs.ListHolds.{all-allowed, every-allowed, within-limit, all-listed}
+use Rattle.promises.specs.TwoWeaves.{saidOver, twoModules, theCalls, theAnswers}
+use Rattle.promises.proofs.TwoRuns.{all-said}
 use Rattle.promises.proofs.CommitRuns.{oneModule, commits-one}
 
 -- ==== 1. "a refusal changes no lent byte and, but for the spoiled mark, no state"
@@ -324,3 +326,8 @@ pub a-run-commits : (n c : ℕ) → 65536 ≤ n → n ≤ 1048576 → 136 ≤ c 
     → step (run (mountedAs (lentAs (zeros n) (zeros c) oneModule) 0) (Begin (zeros 128) ∷ Ingress (116 ∷ []) [] ∷ [])) (Return (pos 0)) .said
     ≡ Ended (Committed 1 136)
 a-run-commits = commits-one
+
+-- and the run of two modules: each call is accepted, with its answer (promises/TwoWeaves: what is lent, what is asked, what is said)
+pub a-run-of-two-modules : (n c : ℕ) → 65536 ≤ n → n ≤ 1048576 → 136 ≤ c → c ≤ 16777216
+    → saidOver (mountedAs (lentAs (zeros n) (zeros c) twoModules) 0) theCalls ≡ theAnswers
+a-run-of-two-modules = all-said

@@ -8,3 +8,4 @@ pub mod Diary
 pub mod Turn
 pub mod ReadBack
 pub mod Edges
+pub mod TwoWeaves
