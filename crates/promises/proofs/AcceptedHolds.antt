@@ -1,285 +1,264 @@
--- Each call is accepted exactly when all holds that it asks.
+-- Each call is accepted exactly when all holds that it asks, in words of its own: what a list of passed checks says.
 -- Assumes nothing.
-use mathlib.Core.Path.{_≡_, refl}
-use mathlib.Core.Bool.{Bool, true, false, not}
-use mathlib.Core.List.{List}
+use mathlib.Core.Path.{_≡_, refl, sym}
+use mathlib.Core.Bool.{Bool, true, false, not, _||_, true≢false}
+use mathlib.Core.List.{List, [], _∷_, _++_}
 use mathlib.Core.Logic.{_↔_}
-use Prim.Native.Nat.{ℕ, _+_, _≤_}
+use Prim.Native.Nat.{ℕ, zero, suc, _+_}
 use borrow.Author.Tests.{leb-true, le-leb, eqb-true, eq-eqb, not-true}
-use lib.Dec.{leb}
-use lib.ListN.{length, take}
-use Rattle.le.proofs.TestLaws.{and-left, and-right, and-both}
-use Rattle.weave.specs.declared.Code.{Code}
-use Rattle.weave.specs.declared.Code.the-variants.{NotNow, NoRoom, Bad, Budget, Denied, Unsound}
-use Rattle.weave.specs.Codes.{isFine, need, first}
+use lib.ListN.{length, getD}
+use Rattle.value.specs.declared.Fault.{Fault}
+use Rattle.value.specs.declared.Fault.the-variants.{Fine as NoFault, Outside, Unfit}
+use Rattle.card.specs.Pick.{All}
 use Rattle.card.specs.Listing.{pageOf}
-use Rattle.card.specs.Walk.{chainTo}
-use Rattle.weave.specs.Args.{recordFine, writeArgs, readArgs, openArgs, nextArgs, closeHandle, filterFine, outFine}
-use Rattle.weave.specs.Checks.{runningCheck, handleFine, slotFine, budgetCheck}
-use Rattle.weave.proofs.CodeLaws.{fine-at, need-test, first-left, first-right}
-use Rattle.takes.specs.Pages.{pageCode}
-use Rattle.takes.specs.Payloads.{payloadChecked, faultCode}
-use Rattle.takes.proofs.PayloadLaws.{no-fault}
+use Rattle.weave.specs.declared.Code.the-variants.{Fine, Bad}
+use Rattle.weave.specs.declared.Spoiled.{Spoiled}
+use Rattle.weave.specs.declared.Spoiled.the-variants.{Not, Overspent, Panicked}
+use Rattle.weave.specs.Codes.{isFine, need}
+use Rattle.weave.specs.Args.{writeArgs, readArgs, openArgs, nextArgs}
+use Rattle.weave.proofs.CodeLaws.{need-test}
+use Rattle.takes.specs.Pages.{pageCharge}
+use Rattle.takes.specs.Payloads.{payloadChecked}
 use Rattle.host.specs.declared.Host.{Host}
-use Rattle.host.specs.Hosts.{Lent, lentCheck, gateCheck, settle}
-use Rattle.host.specs.Begin.{beginCheck, beginAnswer}
-use Rattle.host.specs.Stage.{roomFine, writeCharge, ingressChecks, ingressCheck, ingressAnswer, isPanic, stageCheck, writeChecks, writeCheck, writeAnswer}
-use Rattle.host.specs.Cursors.{openCheck, openAnswer, closeCheck, closeAnswer}
-use Rattle.host.specs.Paging.{nextChecks, nextSound, nextList, nextPage, nextCheck, nextAnswer}
-use Rattle.host.specs.Reading.{readChecks, readSound, readList, readPage, readCheck, readAnswer}
+use Rattle.host.specs.Hosts.{Lent, lentCheck}
+use Rattle.host.specs.Stage.{isPanic, dataLen, writeCharge}
+use Rattle.host.specs.Paging.{nextSound, nextList, nextPage}
+use Rattle.host.specs.Reading.{readSound, readList, readPage}
 use Rattle.promises.specs.Box.{World, Begin, Ingress, Write, Read, Open, Next, Close, step, isRefused}
+use Rattle.promises.specs.Checks.{Check, Passed, check, isOverspent, isPanicked, isOutside, isUnfit, lentAsked, gate, writeAsks, readAsks, openAsks, nextAsks, closeAsks}
 use Rattle.promises.specs.Accepted.{BeginMay, IngressMay, Gated, WriteMay, ReadMay, OpenMay, NextMay, CloseMay}
-use Rattle.promises.proofs.AcceptedLaws.{settle-ok, gate-running, gate-calm, budget-paid}
-use Rattle.promises.proofs.OutcomeHolds.{unspoilt}
+use Rattle.promises.proofs.ChecksHold.{accepted-exactly}
 
--- ---- one check, both ways
+-- ---- one check, in other words
 
-settle-yes : (h : Host) (c : Code) (v : ℕ) (next : Host) → isFine c ≡ true → not (isFine (settle h c v next .code)) ≡ false
-unfolding settle
-settle-yes h c v next e = rw e
-
-fine-need : (t : Bool) (c : Code) → t ≡ true → isFine (need t c) ≡ true
-unfolding need
-fine-need t c e = rw e
-
-fine-both : (c d : Code) → isFine c ≡ true → isFine d ≡ true → isFine (first c d) ≡ true
-unfolding first
-fine-both c d e f = rw e f
+-- check k of a list that was passed
+at : (k : ℕ) (cs : List Check) → All Passed cs → getD cs k (check true Fine) .asks ≡ true
+at k [] p = refl
+at zero (c ∷ cs) p = p .0
+at (suc k) (c ∷ cs) p = at k cs (p .1)
 
 not-yes : (b : Bool) → b ≡ false → not b ≡ true
 not-yes b e = rw e
 
--- ---- checks 1 to 3 of a module call
+unspoilt : (s : Spoiled) → not (isOverspent s) ≡ true → not (isPanicked s) ≡ true → s ≡ Not
+unspoilt Not e f = refl
+unspoilt Overspent e f = absurd (true≢false (sym e))
+unspoilt Panicked e f = absurd (true≢false (sym f))
 
-module _ (l : Lent) (h : Host) (size : ℕ) where
-  gated : isFine (gateCheck l h size) ≡ true → Gated l h size
-  unfolding gateCheck
-  gated e = record {
-    memory = leb-true size 1048576 (need-test _ Bad refl (first-left (need (leb size 1048576) Bad) _ e));
-    check-1 = first-left (lentCheck l h) _ (first-right (need (leb size 1048576) Bad) _ e);
-    running = gate-running l h size e;
-    unspoiled = unspoilt (h .weave .spoiled .0) (gate-calm l h size e);
-  }
+no-fault : (f : Fault) → not (isOutside f) ≡ true → not (isUnfit f) ≡ true → f ≡ NoFault
+no-fault NoFault e g = refl
+no-fault Outside e g = absurd (true≢false (sym e))
+no-fault Unfit e g = absurd (true≢false (sym g))
 
-  gate-fine : Gated l h size → isFine (gateCheck l h size) ≡ true
-  unfolding gateCheck runningCheck
-  gate-fine g =
-      fine-both (need (leb size 1048576) Bad) _ (fine-need (leb size 1048576) Bad (le-leb size 1048576 (g .memory)))
-      (fine-both (lentCheck l h) _ (g .check-1)
-      (fine-both (need (h .weave .running) NotNow) _ (fine-need (h .weave .running) NotNow (g .running)) (rw (g .unspoiled))))
+unless : (p b : Bool) → p || b ≡ true → p ≡ false → b ≡ true
+unless true b e q = absurd (true≢false q)
+unless false b e q = e
 
-budget-fine : (h : Host) (charge : ℕ) → h .weave .units + charge ≤ h .weave .resmax → isFine (budgetCheck (h .weave) charge) ≡ true
-unfolding budgetCheck
-budget-fine h charge b = fine-need (leb (h .weave .units + charge) (h .weave .resmax)) Budget (le-leb (h .weave .units + charge) (h .weave .resmax) b)
+or-else : (p b : Bool) → (p ≡ false → b ≡ true) → p || b ≡ true
+or-else true b f = refl
+or-else false b f = f refl
 
--- ---- begin and ingress
-
-pub begin-exactly : (w : World) (args : List ℕ) → (isRefused (step w (Begin args) .said) ≡ false) ↔ BeginMay (w .lent) (w .host) args
-unfolding step beginAnswer beginCheck
-begin-exactly w args = (
-  λ e.
-      let c = settle-ok (w .host) (beginCheck (w .lent) (w .host) args) 0 _ e in
-      let c₁ = first-right (lentCheck (w .lent) (w .host)) _ c in
-      let c₂ = first-right (need (not (w .host .weave .running)) NotNow) _ c₁ in
-      record {
-        check-1 = first-left (lentCheck (w .lent) (w .host)) _ c;
-        idle = not-true (w .host .weave .running) (need-test _ NotNow refl (first-left (need (not (w .host .weave .running)) NotNow) _ c₁));
-        healthy = not-true (w .host .faulted) (need-test _ Denied refl (first-left (need (not (w .host .faulted)) Denied) _ c₂));
-        long = eqb-true (length args) 128 (need-test _ Bad refl (first-right (need (not (w .host .faulted)) Denied) _ c₂));
-      },
-  λ b.
-      settle-yes (w .host) (beginCheck (w .lent) (w .host) args) 0 _
-      (fine-both (lentCheck (w .lent) (w .host)) _ (b .check-1)
-      (fine-both (need _ NotNow) _ (fine-need _ NotNow (not-yes (w .host .weave .running) (b .idle)))
-      (fine-both (need _ Denied) _ (fine-need _ Denied (not-yes (w .host .faulted) (b .healthy))) (fine-need _ Bad (eq-eqb (length args) 128 (b .long)))))),
-)
-
-pub ingress-exactly : (w : World) (topic payload : List ℕ) → (isRefused (step w (Ingress topic payload) .said) ≡ false) ↔ IngressMay (w .lent) (w .host) topic payload
-unfolding step ingressAnswer ingressChecks
-ingress-exactly w topic payload = (
-  λ e.
-      let c = settle-ok (w .host) (ingressCheck (w .lent) (w .host) topic payload) 0 _ e in
-      let two = need-test _ NotNow refl (fine-at 1 (ingressChecks (w .lent) (w .host) topic payload) c) in
-      record {
-        check-1 = fine-at 0 (ingressChecks (w .lent) (w .host) topic payload) c;
-        running = and-left (w .host .weave .running) _ two;
-        early = not-true (w .host .weave .late) (and-right (w .host .weave .running) _ two);
-        topic-good = need-test _ Bad refl (fine-at 2 (ingressChecks (w .lent) (w .host) topic payload) c);
-        room = need-test _ NoRoom refl (fine-at 3 (ingressChecks (w .lent) (w .host) topic payload) c);
-      },
-  λ b.
-      settle-yes (w .host) (ingressCheck (w .lent) (w .host) topic payload) 0 _
-      (fine-both (lentCheck (w .lent) (w .host)) _ (b .check-1)
-      (fine-both (need _ NotNow) _ (fine-need _ NotNow (and-both (w .host .weave .running) _ (b .running) (not-yes (w .host .weave .late) (b .early))))
-      (fine-both (need _ Bad) _ (fine-need _ Bad (b .topic-good)) (fine-need _ NoRoom (b .room))))),
-)
-
--- ---- the module calls
-
-module _ (w : World) (m : List ℕ) (a : ℕ) where
+module _ (w : World) where
   abbrev l : Lent
   l = w .lent
 
   abbrev h : Host
   h = w .host
 
-  -- checks 9 and 10 of a write, but for a panic
-  stage-room : (p : Bool) (t d n : ℕ) → isFine (stageCheck h p t d n) ≡ true → p ≡ false → roomFine h t d n ≡ true
-  unfolding stageCheck
-  stage-room p t d n e q = need-test _ NoRoom refl (first-left (need (roomFine h t d n) NoRoom) (budgetCheck (h .weave) (writeCharge t d)) (rw q at e))
+  lent-fine : Passed (lentAsked w) → isFine (lentCheck l h) ≡ true
+  unfolding lentCheck need
+  lent-fine e = rw e
 
-  stage-budget : (p : Bool) (t d n : ℕ) → isFine (stageCheck h p t d n) ≡ true → p ≡ false → h .weave .units + writeCharge t d ≤ h .weave .resmax
-  unfolding stageCheck
-  stage-budget p t d n e q =
-      budget-paid (h .weave) (writeCharge t d) (first-right (need (roomFine h t d n) NoRoom) (budgetCheck (h .weave) (writeCharge t d)) (rw q at e))
+  fine-lent : isFine (lentCheck l h) ≡ true → Passed (lentAsked w)
+  unfolding lentCheck
+  fine-lent e = need-test _ Bad refl e
 
-  stage-fine : (p : Bool) (t d n : ℕ) → (p ≡ false → roomFine h t d n ≡ true) → (p ≡ false → h .weave .units + writeCharge t d ≤ h .weave .resmax) → isFine (stageCheck h p t d n) ≡ true
-  unfolding stageCheck
-  stage-fine true t d n r b = refl
-  stage-fine false t d n r b = fine-both (need (roomFine h t d n) NoRoom) _ (fine-need (roomFine h t d n) NoRoom (r refl)) (budget-fine h (writeCharge t d) (b refl))
+  -- ---- begin and ingress
 
-  pub write-exactly : (isRefused (step w (Write m a) .said) ≡ false) ↔ WriteMay l h m a
-  unfolding step writeAnswer writeChecks
-  write-exactly = (
+  pub begin-exactly : (args : List ℕ) → (isRefused (step w (Begin args) .said) ≡ false) ↔ BeginMay l h args
+  begin-exactly args = (
     λ e.
-        let c = settle-ok h (writeCheck l h m a) 0 _ e in
+        let p = accepted-exactly w (Begin args) .0 e in
         record {
-          gated = gated l h (length m) (fine-at 0 (writeChecks l h m a) c);
-          args = need-test _ Bad refl (fine-at 1 (writeChecks l h m a) c);
-          topic = need-test _ Bad refl (fine-at 2 (writeChecks l h m a) c);
-          flags = need-test _ Bad refl (fine-at 3 (writeChecks l h m a) c);
-          payload = need-test _ Bad refl (fine-at 4 (writeChecks l h m a) c);
-          granted = need-test _ Denied refl (fine-at 5 (writeChecks l h m a) c);
-          value = no-fault _ (fine-at 6 (writeChecks l h m a) c);
-          room = stage-room (isPanic m a) _ _ _ (fine-at 7 (writeChecks l h m a) c);
-          budget = stage-budget (isPanic m a) _ _ _ (fine-at 7 (writeChecks l h m a) c);
+          check-1 = lent-fine (p .0);
+          idle = not-true (h .weave .running) (p .1 .0);
+          healthy = not-true (h .faulted) (p .1 .1 .0);
+          long = eqb-true (length args) 128 (p .1 .1 .1 .0);
         },
     λ b.
-        settle-yes h (writeCheck l h m a) 0 _
-        (fine-both (gateCheck l h (length m)) _ (gate-fine l h (length m) (b .gated))
-        (fine-both (need _ Bad) _ (fine-need _ Bad (b .args))
-        (fine-both (need _ Bad) _ (fine-need _ Bad (b .topic))
-        (fine-both (need _ Bad) _ (fine-need _ Bad (b .flags))
-        (fine-both (need _ Bad) _ (fine-need _ Bad (b .payload))
-        (fine-both (need _ Denied) _ (fine-need _ Denied (b .granted))
-        (fine-both (faultCode (payloadChecked m (writeArgs m a) .fault)) _ (rw (b .value)) (stage-fine (isPanic m a) _ _ _ (b .room) (b .budget))))))))),
+        accepted-exactly w (Begin args) .1
+        (fine-lent (b .check-1), (not-yes (h .weave .running) (b .idle), (not-yes (h .faulted) (b .healthy), (eq-eqb (length args) 128 (b .long), tt)))),
   )
 
-  pub open-exactly : (isRefused (step w (Open m a) .said) ≡ false) ↔ OpenMay l h m a
-  unfolding step openAnswer openCheck
-  open-exactly = (
+  pub ingress-exactly : (topic payload : List ℕ) → (isRefused (step w (Ingress topic payload) .said) ≡ false) ↔ IngressMay l h topic payload
+  ingress-exactly topic payload = (
     λ e.
-        let c = settle-ok h (openCheck l h m a) _ _ e in
-        let c₁ = first-right (gateCheck l h (length m)) _ c in
-        let c₂ = first-right (need (recordFine m a 48) Bad) _ c₁ in
-        let c₃ = first-right (need (filterFine m (openArgs m a .topic)) Bad) _ c₂ in
-        let c₄ = first-right (need (leb (openArgs m a .desc) 1) Bad) _ c₃ in
+        let p = accepted-exactly w (Ingress topic payload) .0 e in
         record {
-          gated = gated l h (length m) (first-left (gateCheck l h (length m)) _ c);
-          args = need-test _ Bad refl (first-left (need (recordFine m a 48) Bad) _ c₁);
-          filter = need-test _ Bad refl (first-left (need (filterFine m (openArgs m a .topic)) Bad) _ c₂);
-          desc = leb-true (openArgs m a .desc) 1 (need-test _ Bad refl (first-left (need (leb (openArgs m a .desc) 1) Bad) _ c₃));
-          room = need-test _ NoRoom refl (first-left (need (slotFine (h .weave)) NoRoom) _ c₄);
-          budget = budget-paid (h .weave) 1 (first-right (need (slotFine (h .weave)) NoRoom) _ c₄);
+          check-1 = lent-fine (p .0);
+          running = p .1 .0;
+          early = not-true (h .weave .late) (p .1 .1 .0);
+          topic-good = p .1 .1 .1 .0;
+          room = p .1 .1 .1 .1 .0;
         },
     λ b.
-        settle-yes h (openCheck l h m a) _ _
-        (fine-both (gateCheck l h (length m)) _ (gate-fine l h (length m) (b .gated))
-        (fine-both (need _ Bad) _ (fine-need _ Bad (b .args))
-        (fine-both (need _ Bad) _ (fine-need _ Bad (b .filter))
-        (fine-both (need _ Bad) _ (fine-need _ Bad (le-leb (openArgs m a .desc) 1 (b .desc)))
-        (fine-both (need _ NoRoom) _ (fine-need _ NoRoom (b .room)) (budget-fine h 1 (b .budget))))))),
+        accepted-exactly w (Ingress topic payload) .1
+        (fine-lent (b .check-1), (b .running, (not-yes (h .weave .late) (b .early), (b .topic-good, (b .room, tt))))),
   )
 
-  pub close-exactly : (isRefused (step w (Close m a) .said) ≡ false) ↔ CloseMay l h m a
-  unfolding step closeAnswer closeCheck
-  close-exactly = (
-    λ e.
-        let c = settle-ok h (closeCheck l h m a) _ _ e in
-        let c₁ = first-right (gateCheck l h (length m)) _ c in
-        let c₂ = first-right (need (recordFine m a 8) Bad) _ c₁ in
-        record {
-          gated = gated l h (length m) (first-left (gateCheck l h (length m)) _ c);
-          args = need-test _ Bad refl (first-left (need (recordFine m a 8) Bad) _ c₁);
-          handle = need-test _ NotNow refl (first-left (need (handleFine (h .weave) (closeHandle m a)) NotNow) _ c₂);
-          budget = budget-paid (h .weave) 1 (first-right (need (handleFine (h .weave) (closeHandle m a)) NotNow) _ c₂);
-        },
-    λ b.
-        settle-yes h (closeCheck l h m a) _ _
-        (fine-both (gateCheck l h (length m)) _ (gate-fine l h (length m) (b .gated))
-        (fine-both (need _ Bad) _ (fine-need _ Bad (b .args))
-        (fine-both (need _ NotNow) _ (fine-need _ NotNow (b .handle)) (budget-fine h 1 (b .budget))))),
-  )
+  -- ---- the module calls
 
-  -- a page: what is found once all is sound
-  next-page : isFine (nextSound l h m a) ≡ true → nextPage l h m a ≡ pageOf (nextArgs m a .out .len) (nextList l h (nextArgs m a .handle))
-  unfolding nextPage
-  next-page s = rw s
+  module _ (m : List ℕ) (a : ℕ) where
+    -- checks 1 to 3, and those behind them
+    gated : (cs : List Check) → All Passed (gate w m ++ cs) → Gated l h (length m)
+    gated cs p = record {
+      memory = leb-true (length m) 1048576 (p .0);
+      check-1 = lent-fine (p .1 .0);
+      running = p .1 .1 .0;
+      unspoiled = unspoilt (h .weave .spoiled .0) (p .1 .1 .1 .0) (p .1 .1 .1 .1 .0);
+    }
 
-  next-all : (gateCheck-fine : isFine (gateCheck l h (length m)) ≡ true) → recordFine m a 24 ≡ true → outFine m (nextArgs m a .out) ≡ true
-      → handleFine (h .weave) (nextArgs m a .handle) ≡ true → chainTo (take (h .used) (l .card)) 1 (h .next .0) ≡ true → isFine (nextSound l h m a) ≡ true
-  unfolding nextChecks
-  next-all g r o k s =
-      fine-both (gateCheck l h (length m)) _ g
-      (fine-both (need _ Bad) _ (fine-need _ Bad r)
-      (fine-both (need _ Bad) _ (fine-need _ Bad o) (fine-both (need _ NotNow) _ (fine-need _ NotNow k) (fine-need _ Unsound s))))
+    behind : (cs : List Check) → All Passed (gate w m ++ cs) → All Passed cs
+    behind cs p = p .1 .1 .1 .1 .1
 
-  pub next-exactly : (isRefused (step w (Next m a) .said) ≡ false) ↔ NextMay l h m a
-  unfolding step nextAnswer nextCheck nextChecks
-  next-exactly = (
-    λ e.
-        let c = settle-ok h (nextCheck l h m a) _ _ e in
-        let s = first-left (nextSound l h m a) _ c in
-        let r = first-right (nextSound l h m a) _ c in
-        record {
-          gated = gated l h (length m) (fine-at 0 (nextChecks l h m a) s);
-          args = need-test _ Bad refl (fine-at 1 (nextChecks l h m a) s);
-          out = need-test _ Bad refl (fine-at 2 (nextChecks l h m a) s);
-          handle = need-test _ NotNow refl (fine-at 3 (nextChecks l h m a) s);
-          sound = need-test _ Unsound refl (fine-at 4 (nextChecks l h m a) s);
-          room = rw (← next-page s) (first-left (pageCode (nextPage l h m a)) _ r);
-          budget = rw (← next-page s) (budget-paid (h .weave) _ (first-right (pageCode (nextPage l h m a)) _ r));
-        },
-    λ b.
-        let s = next-all (gate-fine l h (length m) (b .gated)) (b .args) (b .out) (b .handle) (b .sound) in
-        settle-yes h (nextCheck l h m a) _ _
-        (fine-both (nextSound l h m a) _ s
-        (fine-both (pageCode (nextPage l h m a)) _ (rw (next-page s) (b .room)) (rw (next-page s) (budget-fine h _ (b .budget))))),
-  )
+    through : (cs : List Check) → Gated l h (length m) → All Passed cs → All Passed (gate w m ++ cs)
+    through cs g p = (le-leb (length m) 1048576 (g .memory), (fine-lent (g .check-1), (g .running, (rw (g .unspoiled), (rw (g .unspoiled), p)))))
 
-  read-page : isFine (readSound l h m a) ≡ true → readPage l h m a ≡ pageOf (readArgs m a .out .len) (readList l h m a)
-  unfolding readPage
-  read-page s = rw s
+    pub write-exactly : (isRefused (step w (Write m a) .said) ≡ false) ↔ WriteMay l h m a
+    write-exactly = (
+      λ e.
+          let p = accepted-exactly w (Write m a) .0 e in
+          let q = behind (writeAsks w m a) p in
+          record {
+            gated = gated (writeAsks w m a) p;
+            args = at 0 (writeAsks w m a) q;
+            topic = at 1 (writeAsks w m a) q;
+            flags = at 2 (writeAsks w m a) q;
+            payload = at 3 (writeAsks w m a) q;
+            granted = at 4 (writeAsks w m a) q;
+            value = no-fault (payloadChecked m (writeArgs m a) .fault) (at 5 (writeAsks w m a) q) (at 6 (writeAsks w m a) q);
+            room = unless (isPanic m a) _ (at 7 (writeAsks w m a) q);
+            budget = λ c.
+                leb-true (h .weave .units + writeCharge (writeArgs m a .topic .len) (dataLen m a)) (h .weave .resmax) (unless (isPanic m a) _ (at 8 (writeAsks w m a) q) c);
+          },
+      λ b.
+          accepted-exactly w (Write m a) .1
+          (through (writeAsks w m a) (b .gated) (
+            b .args,
+            (
+              b .topic,
+              (
+                b .flags,
+                (
+                  b .payload,
+                  (
+                    b .granted,
+                    (
+                      rw (b .value),
+                      (
+                        rw (b .value),
+                        (
+                          or-else (isPanic m a) _ (b .room),
+                          (
+                            or-else (isPanic m a) _
+                                (λ c. le-leb (h .weave .units + writeCharge (writeArgs m a .topic .len) (dataLen m a)) (h .weave .resmax) (b .budget c)),
+                            tt,
+                          ),
+                        ),
+                      ),
+                    ),
+                  ),
+                ),
+              ),
+            ),
+          )),
+    )
 
-  read-all : ReadMay l h m a → isFine (readSound l h m a) ≡ true
-  unfolding readChecks
-  read-all b =
-      fine-both (gateCheck l h (length m)) _ (gate-fine l h (length m) (b .gated))
-      (fine-both (need _ Bad) _ (fine-need _ Bad (b .args))
-      (fine-both (need _ Bad) _ (fine-need _ Bad (b .topic))
-      (fine-both (need _ Bad) _ (fine-need _ Bad (b .out))
-      (fine-both (need _ Denied) _ (fine-need _ Denied (b .granted)) (fine-need _ Unsound (b .sound))))))
+    pub open-exactly : (isRefused (step w (Open m a) .said) ≡ false) ↔ OpenMay l h m a
+    open-exactly = (
+      λ e.
+          let p = accepted-exactly w (Open m a) .0 e in
+          let q = behind (openAsks w m a) p in
+          record {
+            gated = gated (openAsks w m a) p;
+            args = at 0 (openAsks w m a) q;
+            filter = at 1 (openAsks w m a) q;
+            desc = leb-true (openArgs m a .desc) 1 (at 2 (openAsks w m a) q);
+            room = at 3 (openAsks w m a) q;
+            budget = leb-true (h .weave .units + 1) (h .weave .resmax) (at 4 (openAsks w m a) q);
+          },
+      λ b.
+          accepted-exactly w (Open m a) .1
+          (through (openAsks w m a) (b .gated)
+          (b .args, (b .filter, (le-leb (openArgs m a .desc) 1 (b .desc), (b .room, (le-leb (h .weave .units + 1) (h .weave .resmax) (b .budget), tt)))))),
+    )
 
-  pub read-exactly : (isRefused (step w (Read m a) .said) ≡ false) ↔ ReadMay l h m a
-  unfolding step readAnswer readCheck readChecks
-  read-exactly = (
-    λ e.
-        let c = settle-ok h (readCheck l h m a) _ _ e in
-        let s = first-left (readSound l h m a) _ c in
-        let r = first-right (readSound l h m a) _ c in
-        record {
-          gated = gated l h (length m) (fine-at 0 (readChecks l h m a) s);
-          args = need-test _ Bad refl (fine-at 1 (readChecks l h m a) s);
-          topic = need-test _ Bad refl (fine-at 2 (readChecks l h m a) s);
-          out = need-test _ Bad refl (fine-at 3 (readChecks l h m a) s);
-          granted = need-test _ Denied refl (fine-at 4 (readChecks l h m a) s);
-          sound = need-test _ Unsound refl (fine-at 5 (readChecks l h m a) s);
-          room = rw (← read-page s) (first-left (pageCode (readPage l h m a)) _ r);
-          budget = rw (← read-page s) (budget-paid (h .weave) _ (first-right (pageCode (readPage l h m a)) _ r));
-        },
-    λ b.
-        let s = read-all b in
-        settle-yes h (readCheck l h m a) _ _
-        (fine-both (readSound l h m a) _ s
-        (fine-both (pageCode (readPage l h m a)) _ (rw (read-page s) (b .room)) (rw (read-page s) (budget-fine h _ (b .budget))))),
-  )
+    pub close-exactly : (isRefused (step w (Close m a) .said) ≡ false) ↔ CloseMay l h m a
+    close-exactly = (
+      λ e.
+          let p = accepted-exactly w (Close m a) .0 e in
+          let q = behind (closeAsks w m a) p in
+          record {
+            gated = gated (closeAsks w m a) p;
+            args = at 0 (closeAsks w m a) q;
+            handle = at 1 (closeAsks w m a) q;
+            budget = leb-true (h .weave .units + 1) (h .weave .resmax) (at 2 (closeAsks w m a) q);
+          },
+      λ b.
+          accepted-exactly w (Close m a) .1
+          (through (closeAsks w m a) (b .gated) (b .args, (b .handle, (le-leb (h .weave .units + 1) (h .weave .resmax) (b .budget), tt)))),
+    )
+
+    -- a page: what is found once all is sound
+    pub next-page : isFine (nextSound l h m a) ≡ true → nextPage l h m a ≡ pageOf (nextArgs m a .out .len) (nextList l h (nextArgs m a .handle))
+    unfolding nextPage
+    next-page s = rw s
+
+    pub next-exactly : (isRefused (step w (Next m a) .said) ≡ false) ↔ NextMay l h m a
+    next-exactly =
+        let page = pageOf (nextArgs m a .out .len) (nextList l h (nextArgs m a .handle)) in
+        let asked = nextAsks w m a in (
+          λ e.
+              let p = accepted-exactly w (Next m a) .0 e in
+              let q = behind asked p in
+              record {
+                gated = gated asked p;
+                args = at 0 asked q;
+                out = at 1 asked q;
+                handle = at 2 asked q;
+                sound = at 3 asked q;
+                room = at 4 asked q;
+                budget = leb-true (h .weave .units + pageCharge page) (h .weave .resmax) (at 5 asked q);
+              },
+          λ b.
+              accepted-exactly w (Next m a) .1
+              (through asked (b .gated)
+              (b .args, (b .out, (b .handle, (b .sound, (b .room, (le-leb (h .weave .units + pageCharge page) (h .weave .resmax) (b .budget), tt))))))),
+        )
+
+    pub read-page : isFine (readSound l h m a) ≡ true → readPage l h m a ≡ pageOf (readArgs m a .out .len) (readList l h m a)
+    unfolding readPage
+    read-page s = rw s
+
+    pub read-exactly : (isRefused (step w (Read m a) .said) ≡ false) ↔ ReadMay l h m a
+    read-exactly =
+        let page = pageOf (readArgs m a .out .len) (readList l h m a) in
+        let asked = readAsks w m a in (
+          λ e.
+              let p = accepted-exactly w (Read m a) .0 e in
+              let q = behind asked p in
+              record {
+                gated = gated asked p;
+                args = at 0 asked q;
+                topic = at 1 asked q;
+                out = at 2 asked q;
+                granted = at 3 asked q;
+                sound = at 4 asked q;
+                room = at 5 asked q;
+                budget = leb-true (h .weave .units + pageCharge page) (h .weave .resmax) (at 6 asked q);
+              },
+          λ b.
+              accepted-exactly w (Read m a) .1
+              (through asked (b .gated)
+              (b .args, (b .topic, (b .out, (b .granted, (b .sound, (b .room, (le-leb (h .weave .units + pageCharge page) (h .weave .resmax) (b .budget), tt)))))))),
+        )

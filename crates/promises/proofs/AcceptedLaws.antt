@@ -2,7 +2,6 @@
 -- Assumes nothing.
 use mathlib.Core.Path.{_≡_, refl, sym, ap, _∙_}
 use mathlib.Core.Bool.{Bool, true, false, not, _||_, cond, true≢false}
-use mathlib.Core.List.{List}
 use Prim.Native.Nat.{ℕ, _+_, _^_, _≤_}
 use native.Mathlib.Omega.{arith}
 use borrow.Author.Tests.{leb-true, eqb-true}
@@ -12,17 +11,12 @@ use Rattle.le.proofs.TestLaws.{and-left, and-right}
 use Rattle.manifest.specs.Saying.{isGood, modulesSaid, manifestOf}
 use Rattle.manifest.proofs.SayingLaws.{sized}
 use Rattle.weave.specs.declared.Code.{Code}
-use Rattle.weave.specs.declared.Code.the-variants.{Fine, NotNow, NoRoom, Bad, Budget}
-use Rattle.weave.specs.declared.Weave.{Weave}
-use Rattle.weave.specs.Codes.{isFine, need, first, spoiledCode}
-use Rattle.weave.specs.Args.{nextArgs, closeHandle}
-use Rattle.weave.specs.Checks.{sameLengths, numbersFine, turnFine, lentFine, runningCheck, handleFine, slotFine, budgetCheck}
-use Rattle.weave.proofs.CodeLaws.{fine-at, need-test, first-left, first-right}
+use Rattle.weave.specs.declared.Code.the-variants.{Fine, Bad}
+use Rattle.weave.specs.Codes.{isFine}
+use Rattle.weave.specs.Checks.{sameLengths, numbersFine, turnFine, lentFine}
+use Rattle.weave.proofs.CodeLaws.{need-test}
 use Rattle.host.specs.declared.Host.{Host}
-use Rattle.host.specs.Hosts.{Lent, lengthsOf, lentCheck, gateCheck, refused, settle}
-use Rattle.host.specs.Cursors.{openCheck, closeCheck}
-use Rattle.host.specs.Paging.{nextChecks, nextCheck}
-use Rattle.host.proofs.PagingLaws.{next-sound}
+use Rattle.host.specs.Hosts.{Lent, lengthsOf, lentCheck, refused, settle}
 
 -- check 1, taken apart
 pub record Lawful (l : Lent) (h : Host) : Type 0 where
@@ -69,28 +63,6 @@ lawful l h e =
 pub turn-16 : (l : Lent) (h : Host) → Lawful l h → h .weave .running ≡ true → h .weave .turn ≤ 16
 turn-16 l h a r = omega (arith, a .turn-most r, sized (l .text) .most)
 
--- checks 1 to 3 of a module call
-module _ (l : Lent) (h : Host) (size : ℕ) (e : isFine (gateCheck l h size) ≡ true) where
-  behind : isFine (first (lentCheck l h) (runningCheck (h .weave))) ≡ true
-  unfolding gateCheck
-  behind = first-right (need (leb size 1048576) Bad) _ e
-
-  pub gate-lawful : Lawful l h
-  gate-lawful = lawful l h (first-left (lentCheck l h) _ behind)
-
-  pub gate-running : h .weave .running ≡ true
-  unfolding runningCheck
-  gate-running = need-test _ NotNow refl (first-left (need (h .weave .running) NotNow) _ (first-right (lentCheck l h) _ behind))
-
-  pub gate-calm : isFine (spoiledCode (h .weave .spoiled)) ≡ true
-  unfolding runningCheck
-  gate-calm = first-right (need (h .weave .running) NotNow) _ (first-right (lentCheck l h) _ behind)
-
--- check 10
-pub budget-paid : (w : Weave) (charge : ℕ) → isFine (budgetCheck w charge) ≡ true → w .units + charge ≤ w .resmax
-unfolding budgetCheck
-budget-paid w charge e = leb-true (w .units + charge) (w .resmax) (need-test _ Budget refl e)
-
 -- ---- what was not refused was found no fault with
 
 pub settle-ok : (h : Host) (c : Code) (v : ℕ) (next : Host) → not (isFine (settle h c v next .code)) ≡ false → isFine c ≡ true
@@ -100,23 +72,3 @@ settle-ok h c v next e = go (isFine c) refl e
     go : (t : Bool) → isFine c ≡ t → not (isFine ((cond t (record { code = Fine; value = v; host = next }) (refused h c)) .code)) ≡ false → isFine c ≡ true
     go true q e = q
     go false q e = absurd (true≢false (sym (ap not q) ∙ e))
-
--- ---- check 9
-
-module _ (l : Lent) (h : Host) (m : List ℕ) (at : ℕ) where
-  -- open: room in the table, and in the count of opens
-  pub open-slot : isFine (openCheck l h m at) ≡ true → slotFine (h .weave) ≡ true
-  unfolding openCheck
-  open-slot c =
-      need-test _ NoRoom refl
-      (first-left (need (slotFine (h .weave)) NoRoom) _
-      (first-right (need _ Bad) _ (first-right (need _ Bad) _ (first-right (need _ Bad) _ (first-right (gateCheck l h (length m)) _ c)))))
-
-  -- next and close: the handle is open
-  pub next-handle : isFine (nextCheck l h m at) ≡ true → handleFine (h .weave) (nextArgs m at .handle) ≡ true
-  unfolding nextChecks
-  next-handle c = need-test _ NotNow refl (fine-at 3 (nextChecks l h m at) (next-sound l h m at c))
-
-  pub close-handle : isFine (closeCheck l h m at) ≡ true → handleFine (h .weave) (closeHandle m at) ≡ true
-  unfolding closeCheck
-  close-handle c = need-test _ NotNow refl (first-left (need _ NotNow) _ (first-right (need _ Bad) _ (first-right (gateCheck l h (length m)) _ c)))

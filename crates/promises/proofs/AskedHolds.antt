@@ -1,11 +1,10 @@
 -- The cursor of an open is the one that its bytes ask for; what a panic leaves; the numbers of what is said.
 -- Assumes nothing.
 use mathlib.Core.Path.{_≡_, refl, sym}
-use mathlib.Core.Bool.{Bool, true, false, cond, true≢false}
+use mathlib.Core.Bool.{true, false, true≢false}
 use mathlib.Core.List.{List, [], _∷_, map}
-use Prim.Native.Nat.{ℕ, _+_, _≤_}
+use Prim.Native.Nat.{ℕ, _≤_}
 use native.Mathlib.Omega.{arith}
-use native.Mathlib.Nat.{add-zero}
 use borrow.Author.Tests.{leb-true, not-true}
 use lib.Dec.{leb}
 use lib.IntN.{negsuc}
@@ -23,7 +22,6 @@ use Rattle.value.specs.declared.Fault.the-variants.{Fine as NoFault, Outside, U
 use Rattle.card.specs.Listing.{filterOf}
 use Rattle.weave.specs.declared.Code.the-variants.{Denied, NotNow, Unsound, NoRoom, Bad, Budget, BadValue}
 use Rattle.weave.specs.Codes.{isFine, number}
-use Rattle.weave.specs.Sums.{added}
 use Rattle.weave.specs.States.{paid, spoilt}
 use Rattle.weave.specs.Args.{openArgs, filterFine, filterBytes}
 use Rattle.takes.specs.Opening.{opening}
@@ -36,6 +34,7 @@ use Rattle.promises.specs.Outcome.{PanicLeft}
 use Rattle.promises.specs.Turn.{AskedBy}
 use Rattle.promises.proofs.AcceptedLaws.{settle-ok}
 use Rattle.promises.proofs.AcceptedHolds.{open-exactly}
+use Rattle.promises.proofs.DiaryHolds.{added-nothing}
 
 -- ---- the cursor of an open
 
@@ -58,14 +57,6 @@ asked-by w m a k e =
     record { filter = kept-front 64 (part p n m) n long (omega (arith, long, most)); from = refl; to = refl; limit = refl; desc = refl }
 
 -- ---- a panic
-
-added-nothing : (a most : ℕ) → added a 0 most ≡ a
-unfolding added
-added-nothing a most = go (leb (a + 0) most)
-  where
-    go : (b : Bool) → cond b (a + 0) a ≡ a
-    go true = add-zero a
-    go false = refl
 
 pub panic-left : (w : World) (m : List ℕ) (a : ℕ) → isRefused (step w (Write m a) .said) ≡ false → isPanic m a ≡ true → PanicLeft w (step w (Write m a))
 unfolding step writeAnswer writeStaging settle refused written panicked paid spoilt

@@ -1,7 +1,7 @@
 -- Promise 2: a commit appends exactly the staged bytes, and nothing else changes the card; a discard leaves card and state as before begin.
 -- Assumes nothing.
 use mathlib.Core.Path.{_≡_, refl, sym, ap, _∙_}
-use mathlib.Core.Bool.{Bool, true, false, cond, true≢false}
+use mathlib.Core.Bool.{false, true≢false}
 use mathlib.Core.List.{List, [], _∷_}
 use Prim.Native.Nat.{ℕ, _^_}
 use native.Mathlib.Omega.{arith}
@@ -11,51 +11,35 @@ use lib.Seq.{length-take-le}
 use Rattle.le.specs.Splice.{part, splice, zeros}
 use Rattle.le.proofs.SpliceLaws.{splice-nil, part-of-splice}
 use Rattle.weave.specs.declared.Code.{Code}
-use Rattle.weave.specs.declared.Code.the-variants.{Fine}
-use Rattle.weave.specs.declared.Spoiled.the-variants.{Overspent}
-use Rattle.weave.specs.Codes.{isFine, isBudget}
-use Rattle.weave.specs.Moves.{openedWith, movedTo, closedAt}
-use Rattle.weave.specs.States.{freshWeave, spoilt}
+use Rattle.weave.specs.States.{freshWeave}
 use Rattle.weave.proofs.SumLaws.{added-sum}
 use Rattle.host.specs.declared.Host.{Host}
-use Rattle.host.specs.declared.Answer.{Answer}
-use Rattle.host.specs.declared.Fate.{Fate}
-use Rattle.host.specs.declared.Fate.the-variants.{Refused, Discarded, Running, Committed}
-use Rattle.host.specs.Hosts.{Lent, lentAs, withWeave, refused, settle}
-use Rattle.host.specs.Begin.{beginAnswer}
-use Rattle.host.specs.Stage.{ingressAnswer, isPanic, panicked, written, writeAnswer}
-use Rattle.host.specs.Reading.{readAnswer}
-use Rattle.host.specs.Cursors.{openNext, openAnswer, closeNext, closeAnswer}
-use Rattle.host.specs.Paging.{nextHost, nextAnswer}
-use Rattle.host.specs.Fates.{kept, ends}
+use Rattle.host.specs.declared.Fate.the-variants.{Discarded, Committed}
+use Rattle.host.specs.Hosts.{Lent, withWeave}
 use Rattle.host.specs.Ending.{fateOf, committed, finished, returnAnswer, returnCard, returnStaging}
-use Rattle.promises.specs.Box.{World, Op, Begin, Ingress, Write, Read, Open, Next, Close, Return, LookUp, Ended, step, run}
+use Rattle.promises.specs.Box.{World, Op, Return, Ended, step, run}
 use Rattle.promises.specs.Outcome.{SameCard, saysCommitted, NoneCommitted, Appended, butFaulted}
 use Rattle.promises.proofs.RefusalHolds.{laid-there}
 use Rattle.promises.proofs.AcceptedLaws.{lawful}
 use Rattle.promises.proofs.OutcomeHolds.{fateIn, conditions}
-
--- ---- a state whose weave alone may differ
-
-same-weave : (w : World) (h : Host) (staging : List ℕ) → h .lengths ≡ w .host .lengths → h .used ≡ w .host .used → h .next ≡ w .host .next
-    → SameCard w (record { host = h; lent = lentAs staging (w .lent .card) (w .lent .text) })
-same-weave w h staging l u n = record { card = refl; text = refl; lengths = l; used = u; next = n }
-
--- a call that ends in `settle`: it is so of the next state
-module _ (h : Host) (c : Code) (v : ℕ) (next′ : Host) where
-  abbrev Kept : Host → Type 0
-  Kept g = (g .lengths ≡ h .lengths) × ((g .used ≡ h .used) × (g .next ≡ h .next))
-
-  settle-kept : Kept next′ → Kept (settle h c v next′ .host)
-  unfolding settle refused withWeave spoilt
-  settle-kept k = go (isFine c) (isBudget c)
-    where
-      go : (t b : Bool) → Kept ((cond {A = Answer} t (record { code = Fine; value = v; host = next′ }) (record { code = c; value = 0; host = cond b (withWeave h (spoilt (h .weave) Overspent)) h })) .host)
-      go true b = k
-      go false true = (refl, (refl, refl))
-      go false false = (refl, (refl, refl))
+use Rattle.promises.proofs.MoveLaws.{Move, Rests, Begins, GoesOn, Commits, Discards, after}
+use Rattle.promises.proofs.MovesHold.{moved}
 
 -- ---- nothing but a commit changes the card
+
+same : (w : World) (o : Op) (m : Move w o) → saysCommitted (step w o .said) ≡ false → SameCard w (after w o m)
+unfolding withWeave
+same w o Rests e = record { card = refl; text = refl; lengths = refl; used = refl; next = refl }
+same w o (Begins args i b) e = record { card = refl; text = refl; lengths = refl; used = refl; next = refl }
+same w o (GoesOn r c) e = record { card = refl; text = refl; lengths = refl; used = refl; next = refl }
+same w o (Commits i s code c) e = absurd (true≢false (sym s ∙ e))
+same w o (Discards i) e = record { card = refl; text = refl; lengths = refl; used = refl; next = refl }
+
+-- THE PROMISE: the card changes only where committed is said
+pub only-commit : (w : World) (o : Op) → saysCommitted (step w o .said) ≡ false → SameCard w (step w o .world)
+only-commit w o e = rw (moved w o .world) (same w o (moved w o .move) e)
+
+-- ---- a commit
 
 module _ (w : World) where
   abbrev l : Lent
@@ -63,38 +47,6 @@ module _ (w : World) where
 
   abbrev h : Host
   h = w .host
-
-  same-by : (staging : List ℕ) (g : Host) → (g .lengths ≡ h .lengths) × ((g .used ≡ h .used) × (g .next ≡ h .next))
-      → SameCard w (record { host = g; lent = lentAs staging (l .card) (l .text) })
-  same-by staging g k = same-weave w g staging (k .0) (k .1 .0) (k .1 .1)
-
-  written-kept : (p : Bool) (t d n : ℕ) → (written h p t d n .lengths ≡ h .lengths) × ((written h p t d n .used ≡ h .used) × (written h p t d n .next ≡ h .next))
-  unfolding written panicked withWeave
-  written-kept true t d n = (refl, (refl, refl))
-  written-kept false t d n = (refl, (refl, refl))
-
-  fate-same : (f : Fate) → saysCommitted (Ended f) ≡ false
-      → SameCard w (record { host = finished h f; lent = lentAs (cond (ends f) (zeros (length (l .staging))) (l .staging)) (splice (l .card) (h .used) (take (kept f) (l .staging))) (l .text) })
-  unfolding finished withWeave
-  fate-same (Refused c) e = record { card = splice-nil (l .card) (h .used); text = refl; lengths = refl; used = refl; next = refl }
-  fate-same (Discarded c) e = record { card = splice-nil (l .card) (h .used); text = refl; lengths = refl; used = refl; next = refl }
-  fate-same Running e = record { card = splice-nil (l .card) (h .used); text = refl; lengths = refl; used = refl; next = refl }
-  fate-same (Committed events bytes) e = absurd (true≢false e)
-
-  -- THE PROMISE: the card changes only where committed is said
-  pub only-commit : (o : Op) → saysCommitted (step w o .said) ≡ false → SameCard w (step w o .world)
-  unfolding step beginAnswer ingressAnswer writeAnswer readAnswer openAnswer nextAnswer closeAnswer returnAnswer returnCard returnStaging withWeave openNext openedWith nextHost movedTo closeNext closedAt
-  only-commit (Begin args) e = same-by _ _ (settle-kept h _ _ _ (refl, (refl, refl)))
-  only-commit (Ingress topic payload) e = same-by _ _ (settle-kept h _ _ _ (refl, (refl, refl)))
-  only-commit (Write m a) e = same-by _ _ (settle-kept h _ _ _ (written-kept (isPanic m a) _ _ _))
-  only-commit (Read m a) e = same-by _ _ (settle-kept h _ _ _ (refl, (refl, refl)))
-  only-commit (Open m a) e = same-by _ _ (settle-kept h _ _ _ (refl, (refl, refl)))
-  only-commit (Next m a) e = same-by _ _ (settle-kept h _ _ _ (refl, (refl, refl)))
-  only-commit (Close m a) e = same-by _ _ (settle-kept h _ _ _ (refl, (refl, refl)))
-  only-commit (Return code) e = fate-same (fateOf l h code) e
-  only-commit (LookUp id) e = record { card = refl; text = refl; lengths = refl; used = refl; next = refl }
-
-  -- ---- a commit
 
   fate-appends : (code : ℤ) (events bytes : ℕ) → fateOf l h code ≡ Committed events bytes → Appended w (step w (Return code) .world)
   unfolding step returnAnswer returnCard returnStaging finished committed

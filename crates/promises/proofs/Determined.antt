@@ -27,443 +27,231 @@ abbrev SeenOnce : {n : ℕ} (ps : List (PK n)) (r : RK n) → Out n ps r → ((�
 SeenOnce {n} ps r Q seen =
     (κs : Lfts n) (a : Dens κs ps) (z z′ : resT r κs .Denot) (s s′ : AtExit (endedOf n ps r) κs) → Q κs a z s → Q κs a z′ s′ → seen κs z s ≡ seen κs z′ s′
 
+-- two that are equal to a third, by a contract of one clause, of two, of three
+meet : {A : Type 0} {x y z : A} → x ≡ z → y ≡ z → x ≡ y
+meet p q = p ∙ sym q
+
+meet-0 : {A B C : Type 0} {x y z : A} → (x ≡ z) × B → (y ≡ z) × C → x ≡ y
+meet-0 p q = p .0 ∙ sym (q .0)
+
+meet-1 : {A B C : Type 0} {x y z : A} → B × (x ≡ z) → C × (y ≡ z) → x ≡ y
+meet-1 p q = p .1 ∙ sym (q .1)
+
+meet-1-0 : {A B C D E : Type 0} {x y z : A} → B × ((x ≡ z) × C) → D × ((y ≡ z) × E) → x ≡ y
+meet-1-0 p q = p .1 .0 ∙ sym (q .1 .0)
+
+meet-1-1 : {A B C D E : Type 0} {x y z : A} → B × (C × (x ≡ z)) → D × (E × (y ≡ z)) → x ≡ y
+meet-1-1 p q = p .1 .1 ∙ sym (q .1 .1)
+
+ruleset met = (meet, meet-0, meet-1, meet-1-0, meet-1-1)
+
 -- ---- numbers and runs of bytes
 
-pub le-front : SeenOnce le.front.Kinds.ps le.front.Kinds.r le.front.Reads.Learnt (λ κs z s. now z)
-le-front κs a z z′ s s′ p q = p ∙ sym q
+pub record LeOnce : Type 0 where
+  pub front : SeenOnce le.front.Kinds.ps le.front.Kinds.r le.front.Reads.Learnt (λ κs z s. now z)
+  pub tail : SeenOnce le.tail.Kinds.ps le.tail.Kinds.r le.tail.Reads.Learnt (λ κs z s. now z)
+  pub cut : SeenOnce le.cut.Kinds.ps le.cut.Kinds.r le.cut.Reads.Learnt (λ κs z s. now z)
+  pub read-u32 : ResultOnce le.read_u32.Kinds.ps le.read_u32.Kinds.r le.read_u32.Reads.Learnt
+  pub read-u64 : ResultOnce le.read_u64.Kinds.ps le.read_u64.Kinds.r le.read_u64.Reads.Learnt
+  pub put-u32-s : SeenOnce le.put_u32.Kinds.ps le.put_u32.Kinds.r le.put_u32.Reads.Learnt (λ κs z s. now (s .0))
+  pub put-u64-s : SeenOnce le.put_u64.Kinds.ps le.put_u64.Kinds.r le.put_u64.Reads.Learnt (λ κs z s. now (s .0))
+  pub copy-at-dst : SeenOnce le.copy_at.Kinds.ps le.copy_at.Kinds.r le.copy_at.Reads.Learnt (λ κs z s. now (s .1 .0))
+  pub copy-part-dst : SeenOnce le.copy_part.Kinds.ps le.copy_part.Kinds.r le.copy_part.Reads.Learnt (λ κs z s. now (s .1 .1 .1 .0))
+  pub zero-range-dst : SeenOnce le.zero_range.Kinds.ps le.zero_range.Kinds.r le.zero_range.Reads.Learnt (λ κs z s. now (s .0))
+  pub zero-between : ResultOnce le.zero_between.Kinds.ps le.zero_between.Kinds.r le.zero_between.Reads.Learnt
 
-pub le-tail : SeenOnce le.tail.Kinds.ps le.tail.Kinds.r le.tail.Reads.Learnt (λ κs z s. now z)
-le-tail κs a z z′ s s′ p q = p ∙ sym q
-
-pub le-cut : SeenOnce le.cut.Kinds.ps le.cut.Kinds.r le.cut.Reads.Learnt (λ κs z s. now z)
-le-cut κs a z z′ s s′ p q = p ∙ sym q
-
-pub le-read-u32 : ResultOnce le.read_u32.Kinds.ps le.read_u32.Kinds.r le.read_u32.Reads.Learnt
-le-read-u32 κs a z z′ s s′ p q = p ∙ sym q
-
-pub le-read-u64 : ResultOnce le.read_u64.Kinds.ps le.read_u64.Kinds.r le.read_u64.Reads.Learnt
-le-read-u64 κs a z z′ s s′ p q = p ∙ sym q
-
-pub le-put-u32-s : SeenOnce le.put_u32.Kinds.ps le.put_u32.Kinds.r le.put_u32.Reads.Learnt (λ κs z s. now (s .0))
-le-put-u32-s κs a z z′ s s′ p q = p ∙ sym q
-
-pub le-put-u64-s : SeenOnce le.put_u64.Kinds.ps le.put_u64.Kinds.r le.put_u64.Reads.Learnt (λ κs z s. now (s .0))
-le-put-u64-s κs a z z′ s s′ p q = p ∙ sym q
-
-pub le-copy-at-dst : SeenOnce le.copy_at.Kinds.ps le.copy_at.Kinds.r le.copy_at.Reads.Learnt (λ κs z s. now (s .1 .0))
-le-copy-at-dst κs a z z′ s s′ p q = p ∙ sym q
-
-pub le-copy-part-dst : SeenOnce le.copy_part.Kinds.ps le.copy_part.Kinds.r le.copy_part.Reads.Learnt (λ κs z s. now (s .1 .1 .1 .0))
-le-copy-part-dst κs a z z′ s s′ p q = p ∙ sym q
-
-pub le-zero-range-dst : SeenOnce le.zero_range.Kinds.ps le.zero_range.Kinds.r le.zero_range.Reads.Learnt (λ κs z s. now (s .0))
-le-zero-range-dst κs a z z′ s s′ p q = p ∙ sym q
-
-pub le-zero-between : ResultOnce le.zero_between.Kinds.ps le.zero_between.Kinds.r le.zero_between.Reads.Learnt
-le-zero-between κs a z z′ s s′ p q = p ∙ sym q
+pub le-once : LeOnce
+le-once = search met
 
 -- ---- texts
 
-pub text-compare-starts-with : ResultOnce text.compare.starts_with.Kinds.ps text.compare.starts_with.Kinds.r text.compare.starts_with.Reads.Learnt
-text-compare-starts-with κs a z z′ s s′ p q = p ∙ sym q
+pub record TextOnce : Type 0 where
+  pub compare-starts-with : ResultOnce text.compare.starts_with.Kinds.ps text.compare.starts_with.Kinds.r text.compare.starts_with.Reads.Learnt
+  pub compare-same : ResultOnce text.compare.same.Kinds.ps text.compare.same.Kinds.r text.compare.same.Reads.Learnt
+  pub decimal-read-number : ResultOnce text.decimal.read_number.Kinds.ps text.decimal.read_number.Kinds.r text.decimal.read_number.Reads.Learnt
+  pub decimal-digit-count : ResultOnce text.decimal.digit_count.Kinds.ps text.decimal.digit_count.Kinds.r text.decimal.digit_count.Reads.Learnt
+  pub decimal-put-number : ResultOnce text.decimal.put_number.Kinds.ps text.decimal.put_number.Kinds.r text.decimal.put_number.Reads.Learnt
+  pub decimal-put-number-out : SeenOnce text.decimal.put_number.Kinds.ps text.decimal.put_number.Kinds.r text.decimal.put_number.Reads.Learnt (λ κs z s. now (s .0))
+  pub flags-good-flags : ResultOnce text.flags.good_flags.Kinds.ps text.flags.good_flags.Kinds.r text.flags.good_flags.Reads.Learnt
+  pub lines-find : ResultOnce text.lines.find.Kinds.ps text.lines.find.Kinds.r text.lines.find.Reads.Learnt
+  pub lines-line : SeenOnce text.lines.line.Kinds.ps text.lines.line.Kinds.r text.lines.line.Reads.Learnt (λ κs z s. now z)
+  pub lines-closed : ResultOnce text.lines.closed.Kinds.ps text.lines.closed.Kinds.r text.lines.closed.Reads.Learnt
+  pub lines-field-count : ResultOnce text.lines.field_count.Kinds.ps text.lines.field_count.Kinds.r text.lines.field_count.Reads.Learnt
+  pub lines-field : SeenOnce text.lines.field.Kinds.ps text.lines.field.Kinds.r text.lines.field.Reads.Learnt (λ κs z s. now z)
+  pub sizes-up-to-8 : ResultOnce text.sizes.up_to_8.Kinds.ps text.sizes.up_to_8.Kinds.r text.sizes.up_to_8.Reads.Learnt
+  pub sizes-total-len : ResultOnce text.sizes.total_len.Kinds.ps text.sizes.total_len.Kinds.r text.sizes.total_len.Reads.Learnt
+  pub span-inside : ResultOnce text.span.inside.Kinds.ps text.span.inside.Kinds.r text.span.inside.Reads.Learnt
+  pub topic-good-topic : ResultOnce text.topic.good_topic.Kinds.ps text.topic.good_topic.Kinds.r text.topic.good_topic.Reads.Learnt
+  pub topic-card-topic : ResultOnce text.topic.card_topic.Kinds.ps text.topic.card_topic.Kinds.r text.topic.card_topic.Reads.Learnt
+  pub topic-good-filter : ResultOnce text.topic.good_filter.Kinds.ps text.topic.good_filter.Kinds.r text.topic.good_filter.Reads.Learnt
+  pub utf8-valid : ResultOnce text.utf8.valid.Kinds.ps text.utf8.valid.Kinds.r text.utf8.valid.Reads.Learnt
+  pub words-is-panic : ResultOnce text.words.is_panic.Kinds.ps text.words.is_panic.Kinds.r text.words.is_panic.Reads.Learnt
+  pub words-is-core : ResultOnce text.words.is_core.Kinds.ps text.words.is_core.Kinds.r text.words.is_core.Reads.Learnt
 
-pub text-compare-same : ResultOnce text.compare.same.Kinds.ps text.compare.same.Kinds.r text.compare.same.Reads.Learnt
-text-compare-same κs a z z′ s s′ p q = p ∙ sym q
-
-pub text-decimal-read-number : ResultOnce text.decimal.read_number.Kinds.ps text.decimal.read_number.Kinds.r text.decimal.read_number.Reads.Learnt
-text-decimal-read-number κs a z z′ s s′ p q = p ∙ sym q
-
-pub text-decimal-digit-count : ResultOnce text.decimal.digit_count.Kinds.ps text.decimal.digit_count.Kinds.r text.decimal.digit_count.Reads.Learnt
-text-decimal-digit-count κs a z z′ s s′ p q = p ∙ sym q
-
-pub text-decimal-put-number : ResultOnce text.decimal.put_number.Kinds.ps text.decimal.put_number.Kinds.r text.decimal.put_number.Reads.Learnt
-text-decimal-put-number κs a z z′ s s′ p q = p .0 ∙ sym (q .0)
-
-pub text-decimal-put-number-out : SeenOnce text.decimal.put_number.Kinds.ps text.decimal.put_number.Kinds.r text.decimal.put_number.Reads.Learnt (λ κs z s. now (s .0))
-text-decimal-put-number-out κs a z z′ s s′ p q = p .1 ∙ sym (q .1)
-
-pub text-flags-good-flags : ResultOnce text.flags.good_flags.Kinds.ps text.flags.good_flags.Kinds.r text.flags.good_flags.Reads.Learnt
-text-flags-good-flags κs a z z′ s s′ p q = p ∙ sym q
-
-pub text-lines-find : ResultOnce text.lines.find.Kinds.ps text.lines.find.Kinds.r text.lines.find.Reads.Learnt
-text-lines-find κs a z z′ s s′ p q = p .0 ∙ sym (q .0)
-
-pub text-lines-line : SeenOnce text.lines.line.Kinds.ps text.lines.line.Kinds.r text.lines.line.Reads.Learnt (λ κs z s. now z)
-text-lines-line κs a z z′ s s′ p q = p .0 ∙ sym (q .0)
-
-pub text-lines-closed : ResultOnce text.lines.closed.Kinds.ps text.lines.closed.Kinds.r text.lines.closed.Reads.Learnt
-text-lines-closed κs a z z′ s s′ p q = p ∙ sym q
-
-pub text-lines-field-count : ResultOnce text.lines.field_count.Kinds.ps text.lines.field_count.Kinds.r text.lines.field_count.Reads.Learnt
-text-lines-field-count κs a z z′ s s′ p q = p ∙ sym q
-
-pub text-lines-field : SeenOnce text.lines.field.Kinds.ps text.lines.field.Kinds.r text.lines.field.Reads.Learnt (λ κs z s. now z)
-text-lines-field κs a z z′ s s′ p q = p .0 ∙ sym (q .0)
-
-pub text-sizes-up-to-8 : ResultOnce text.sizes.up_to_8.Kinds.ps text.sizes.up_to_8.Kinds.r text.sizes.up_to_8.Reads.Learnt
-text-sizes-up-to-8 κs a z z′ s s′ p q = p ∙ sym q
-
-pub text-sizes-total-len : ResultOnce text.sizes.total_len.Kinds.ps text.sizes.total_len.Kinds.r text.sizes.total_len.Reads.Learnt
-text-sizes-total-len κs a z z′ s s′ p q = p ∙ sym q
-
-pub text-span-inside : ResultOnce text.span.inside.Kinds.ps text.span.inside.Kinds.r text.span.inside.Reads.Learnt
-text-span-inside κs a z z′ s s′ p q = p ∙ sym q
-
-pub text-topic-good-topic : ResultOnce text.topic.good_topic.Kinds.ps text.topic.good_topic.Kinds.r text.topic.good_topic.Reads.Learnt
-text-topic-good-topic κs a z z′ s s′ p q = p ∙ sym q
-
-pub text-topic-card-topic : ResultOnce text.topic.card_topic.Kinds.ps text.topic.card_topic.Kinds.r text.topic.card_topic.Reads.Learnt
-text-topic-card-topic κs a z z′ s s′ p q = p ∙ sym q
-
-pub text-topic-good-filter : ResultOnce text.topic.good_filter.Kinds.ps text.topic.good_filter.Kinds.r text.topic.good_filter.Reads.Learnt
-text-topic-good-filter κs a z z′ s s′ p q = p ∙ sym q
-
-pub text-utf8-valid : ResultOnce text.utf8.valid.Kinds.ps text.utf8.valid.Kinds.r text.utf8.valid.Reads.Learnt
-text-utf8-valid κs a z z′ s s′ p q = p ∙ sym q
-
-pub text-words-is-panic : ResultOnce text.words.is_panic.Kinds.ps text.words.is_panic.Kinds.r text.words.is_panic.Reads.Learnt
-text-words-is-panic κs a z z′ s s′ p q = p ∙ sym q
-
-pub text-words-is-core : ResultOnce text.words.is_core.Kinds.ps text.words.is_core.Kinds.r text.words.is_core.Reads.Learnt
-text-words-is-core κs a z z′ s s′ p q = p ∙ sym q
+pub text-once : TextOnce
+text-once = search met
 
 -- ---- values
 
-pub value-check-check-value : ResultOnce value.check.check_value.Kinds.ps value.check.check_value.Kinds.r value.check.check_value.Reads.Learnt
-value-check-check-value κs a z z′ s s′ p q = p ∙ sym q
+pub record ValueOnce : Type 0 where
+  pub check-check-value : ResultOnce value.check.check_value.Kinds.ps value.check.check_value.Kinds.r value.check.check_value.Reads.Learnt
+  pub decode-read-value : ResultOnce value.decode.read_value.Kinds.ps value.decode.read_value.Kinds.r value.decode.read_value.Reads.Learnt
+  pub form-good-stored : ResultOnce value.form.good_stored.Kinds.ps value.form.good_stored.Kinds.r value.form.good_stored.Reads.Learnt
+  pub scalar-put-scalar-out : SeenOnce value.scalar.put_scalar.Kinds.ps value.scalar.put_scalar.Kinds.r value.scalar.put_scalar.Reads.Learnt (λ κs z s. now (s .0))
+  pub shown-show-value-buf : SeenOnce value.shown.show_value.Kinds.ps value.shown.show_value.Kinds.r value.shown.show_value.Reads.Learnt (λ κs z s. now (s .0))
+  pub store-put-value-out : SeenOnce value.store.put_value.Kinds.ps value.store.put_value.Kinds.r value.store.put_value.Reads.Learnt (λ κs z s. now (s .1 .1 .0))
+  pub store-store-value-out : SeenOnce value.store.store_value.Kinds.ps value.store.store_value.Kinds.r value.store.store_value.Reads.Learnt (λ κs z s. now (s .1 .1 .0))
 
-pub value-decode-read-value : ResultOnce value.decode.read_value.Kinds.ps value.decode.read_value.Kinds.r value.decode.read_value.Reads.Learnt
-value-decode-read-value κs a z z′ s s′ p q = p ∙ sym q
-
-pub value-form-good-stored : ResultOnce value.form.good_stored.Kinds.ps value.form.good_stored.Kinds.r value.form.good_stored.Reads.Learnt
-value-form-good-stored κs a z z′ s s′ p q = p ∙ sym q
-
-pub value-scalar-put-scalar-out : SeenOnce value.scalar.put_scalar.Kinds.ps value.scalar.put_scalar.Kinds.r value.scalar.put_scalar.Reads.Learnt (λ κs z s. now (s .0))
-value-scalar-put-scalar-out κs a z z′ s s′ p q = p ∙ sym q
-
-pub value-shown-show-value-buf : SeenOnce value.shown.show_value.Kinds.ps value.shown.show_value.Kinds.r value.shown.show_value.Reads.Learnt (λ κs z s. now (s .0))
-value-shown-show-value-buf κs a z z′ s s′ p q = p ∙ sym q
-
-pub value-store-put-value-out : SeenOnce value.store.put_value.Kinds.ps value.store.put_value.Kinds.r value.store.put_value.Reads.Learnt (λ κs z s. now (s .1 .1 .0))
-value-store-put-value-out κs a z z′ s s′ p q = p ∙ sym q
-
-pub value-store-store-value-out : SeenOnce value.store.store_value.Kinds.ps value.store.store_value.Kinds.r value.store.store_value.Reads.Learnt (λ κs z s. now (s .1 .1 .0))
-value-store-store-value-out κs a z z′ s s′ p q = p ∙ sym q
+pub value-once : ValueOnce
+value-once = search met
 
 -- ---- the manifest
 
-pub manifest-manifest-read : ResultOnce manifest.Manifest.read.Kinds.ps manifest.Manifest.read.Kinds.r manifest.Manifest.read.Reads.Learnt
-manifest-manifest-read κs a z z′ s s′ p q = p ∙ sym q
+pub record ManifestOnce : Type 0 where
+  pub manifest-read : ResultOnce manifest.Manifest.read.Kinds.ps manifest.Manifest.read.Kinds.r manifest.Manifest.read.Reads.Learnt
+  pub manifest-granted : ResultOnce manifest.Manifest.granted.Kinds.ps manifest.Manifest.granted.Kinds.r manifest.Manifest.granted.Reads.Learnt
 
-pub manifest-manifest-granted : ResultOnce manifest.Manifest.granted.Kinds.ps manifest.Manifest.granted.Kinds.r manifest.Manifest.granted.Reads.Learnt
-manifest-manifest-granted κs a z z′ s s′ p q = p ∙ sym q
+pub manifest-once : ManifestOnce
+manifest-once = search met
 
 -- ---- records
 
-pub record-good-good-record : ResultOnce records.good.good_record.Kinds.ps records.good.good_record.Kinds.r records.good.good_record.Reads.Learnt
-record-good-good-record κs a z z′ s s′ p q = p ∙ sym q
+pub record RecordOnce : Type 0 where
+  pub good-good-record : ResultOnce records.good.good_record.Kinds.ps records.good.good_record.Kinds.r records.good.good_record.Reads.Learnt
+  pub header-payload-at : ResultOnce records.Header.payload_at.Kinds.ps records.Header.payload_at.Kinds.r records.Header.payload_at.Reads.Learnt
+  pub put-put-record-staging : SeenOnce records.put.put_record.Kinds.ps records.put.put_record.Kinds.r records.put.put_record.Reads.Learnt (λ κs z s. now (s .0))
+  pub put-put-value-record-staging : SeenOnce records.put.put_value_record.Kinds.ps records.put.put_value_record.Kinds.r records.put.put_value_record.Reads.Learnt (λ κs z s. now (s .0))
+  pub shown-put-shown-memory : SeenOnce records.shown.put_shown.Kinds.ps records.shown.put_shown.Kinds.r records.shown.put_shown.Reads.Learnt (λ κs z s. now (s .1 .0))
 
-pub record-header-payload-at : ResultOnce records.Header.payload_at.Kinds.ps records.Header.payload_at.Kinds.r records.Header.payload_at.Reads.Learnt
-record-header-payload-at κs a z z′ s s′ p q = p ∙ sym q
-
-pub record-put-put-record-staging : SeenOnce records.put.put_record.Kinds.ps records.put.put_record.Kinds.r records.put.put_record.Reads.Learnt (λ κs z s. now (s .0))
-record-put-put-record-staging κs a z z′ s s′ p q = p ∙ sym q
-
-pub record-put-put-value-record-staging : SeenOnce records.put.put_value_record.Kinds.ps records.put.put_value_record.Kinds.r records.put.put_value_record.Reads.Learnt (λ κs z s. now (s .0))
-record-put-put-value-record-staging κs a z z′ s s′ p q = p ∙ sym q
-
-pub record-shown-put-shown-memory : SeenOnce records.shown.put_shown.Kinds.ps records.shown.put_shown.Kinds.r records.shown.put_shown.Reads.Learnt (λ κs z s. now (s .1 .0))
-record-shown-put-shown-memory κs a z z′ s s′ p q = p ∙ sym q
+pub record-once : RecordOnce
+record-once = search met
 
 -- ---- the card
 
-pub card-grants-wanted-topic : ResultOnce card.grants.wanted_topic.Kinds.ps card.grants.wanted_topic.Kinds.r card.grants.wanted_topic.Reads.Learnt
-card-grants-wanted-topic κs a z z′ s s′ p q = p ∙ sym q
+pub record CardOnce : Type 0 where
+  pub grants-wanted-topic : ResultOnce card.grants.wanted_topic.Kinds.ps card.grants.wanted_topic.Kinds.r card.grants.wanted_topic.Reads.Learnt
+  pub cursor-reading : ResultOnce card.Cursor.reading.Kinds.ps card.Cursor.reading.Kinds.r card.Cursor.reading.Reads.Learnt
+  pub cursor-past : ResultOnce card.Cursor.past.Kinds.ps card.Cursor.past.Kinds.r card.Cursor.past.Reads.Learnt
+  pub listing-lists : ResultOnce card.listing.lists.Kinds.ps card.listing.lists.Kinds.r card.listing.lists.Reads.Learnt
+  pub pages-measure : ResultOnce card.pages.measure.Kinds.ps card.pages.measure.Kinds.r card.pages.measure.Reads.Learnt
+  pub pages-copy-page : ResultOnce card.pages.copy_page.Kinds.ps card.pages.copy_page.Kinds.r card.pages.copy_page.Reads.Learnt
+  pub pages-copy-page-memory : SeenOnce card.pages.copy_page.Kinds.ps card.pages.copy_page.Kinds.r card.pages.copy_page.Reads.Learnt (λ κs z s. now (s .1 .1 .1 .1 .1 .1 .1 .0))
+  pub walk-head-len : ResultOnce card.walk.head_len.Kinds.ps card.walk.head_len.Kinds.r card.walk.head_len.Reads.Learnt
+  pub walk-check-chain : ResultOnce card.walk.check_chain.Kinds.ps card.walk.check_chain.Kinds.r card.walk.check_chain.Reads.Learnt
+  pub walk-chain-to : ResultOnce card.walk.chain_to.Kinds.ps card.walk.chain_to.Kinds.r card.walk.chain_to.Reads.Learnt
+  pub walk-find : ResultOnce card.walk.find.Kinds.ps card.walk.find.Kinds.r card.walk.find.Reads.Learnt
+  pub walk-record-from : SeenOnce card.walk.record_from.Kinds.ps card.walk.record_from.Kinds.r card.walk.record_from.Reads.Learnt (λ κs z s. now z)
+  pub walk-record-of : SeenOnce card.walk.record_of.Kinds.ps card.walk.record_of.Kinds.r card.walk.record_of.Reads.Learnt (λ κs z s. now z)
+  pub walk-look-up : SeenOnce card.walk.look_up.Kinds.ps card.walk.look_up.Kinds.r card.walk.look_up.Reads.Learnt (λ κs z s. now z)
 
-pub card-cursor-reading : ResultOnce card.Cursor.reading.Kinds.ps card.Cursor.reading.Kinds.r card.Cursor.reading.Reads.Learnt
-card-cursor-reading κs a z z′ s s′ p q = p ∙ sym q
-
-pub card-cursor-past : ResultOnce card.Cursor.past.Kinds.ps card.Cursor.past.Kinds.r card.Cursor.past.Reads.Learnt
-card-cursor-past κs a z z′ s s′ p q = p ∙ sym q
-
-pub card-listing-lists : ResultOnce card.listing.lists.Kinds.ps card.listing.lists.Kinds.r card.listing.lists.Reads.Learnt
-card-listing-lists κs a z z′ s s′ p q = p ∙ sym q
-
-pub card-pages-measure : ResultOnce card.pages.measure.Kinds.ps card.pages.measure.Kinds.r card.pages.measure.Reads.Learnt
-card-pages-measure κs a z z′ s s′ p q = p ∙ sym q
-
-pub card-pages-copy-page : ResultOnce card.pages.copy_page.Kinds.ps card.pages.copy_page.Kinds.r card.pages.copy_page.Reads.Learnt
-card-pages-copy-page κs a z z′ s s′ p q = p .0 ∙ sym (q .0)
-
-pub card-pages-copy-page-memory : SeenOnce card.pages.copy_page.Kinds.ps card.pages.copy_page.Kinds.r card.pages.copy_page.Reads.Learnt (λ κs z s. now (s .1 .1 .1 .1 .1 .1 .1 .0))
-card-pages-copy-page-memory κs a z z′ s s′ p q = p .1 ∙ sym (q .1)
-
-pub card-walk-head-len : ResultOnce card.walk.head_len.Kinds.ps card.walk.head_len.Kinds.r card.walk.head_len.Reads.Learnt
-card-walk-head-len κs a z z′ s s′ p q = p .0 ∙ sym (q .0)
-
-pub card-walk-check-chain : ResultOnce card.walk.check_chain.Kinds.ps card.walk.check_chain.Kinds.r card.walk.check_chain.Reads.Learnt
-card-walk-check-chain κs a z z′ s s′ p q = p ∙ sym q
-
-pub card-walk-chain-to : ResultOnce card.walk.chain_to.Kinds.ps card.walk.chain_to.Kinds.r card.walk.chain_to.Reads.Learnt
-card-walk-chain-to κs a z z′ s s′ p q = p ∙ sym q
-
-pub card-walk-find : ResultOnce card.walk.find.Kinds.ps card.walk.find.Kinds.r card.walk.find.Reads.Learnt
-card-walk-find κs a z z′ s s′ p q = p ∙ sym q
-
-pub card-walk-record-from : SeenOnce card.walk.record_from.Kinds.ps card.walk.record_from.Kinds.r card.walk.record_from.Reads.Learnt (λ κs z s. now z)
-card-walk-record-from κs a z z′ s s′ p q = p ∙ sym q
-
-pub card-walk-record-of : SeenOnce card.walk.record_of.Kinds.ps card.walk.record_of.Kinds.r card.walk.record_of.Reads.Learnt (λ κs z s. now z)
-card-walk-record-of κs a z z′ s s′ p q = p ∙ sym q
-
-pub card-walk-look-up : SeenOnce card.walk.look_up.Kinds.ps card.walk.look_up.Kinds.r card.walk.look_up.Reads.Learnt (λ κs z s. now z)
-card-walk-look-up κs a z z′ s s′ p q = p ∙ sym q
+pub card-once : CardOnce
+card-once = search met
 
 -- ---- one weave
 
-pub weave-args-record-fine : ResultOnce weave.args.record_fine.Kinds.ps weave.args.record_fine.Kinds.r weave.args.record_fine.Reads.Learnt
-weave-args-record-fine κs a z z′ s s′ p q = p ∙ sym q
+pub record WeaveOnce : Type 0 where
+  pub args-record-fine : ResultOnce weave.args.record_fine.Kinds.ps weave.args.record_fine.Kinds.r weave.args.record_fine.Reads.Learnt
+  pub args-close-handle : ResultOnce weave.args.close_handle.Kinds.ps weave.args.close_handle.Kinds.r weave.args.close_handle.Reads.Learnt
+  pub args-bytes-at : SeenOnce weave.args.bytes_at.Kinds.ps weave.args.bytes_at.Kinds.r weave.args.bytes_at.Reads.Learnt (λ κs z s. now z)
+  pub args-topic-fine : ResultOnce weave.args.topic_fine.Kinds.ps weave.args.topic_fine.Kinds.r weave.args.topic_fine.Reads.Learnt
+  pub args-filter-fine : ResultOnce weave.args.filter_fine.Kinds.ps weave.args.filter_fine.Kinds.r weave.args.filter_fine.Reads.Learnt
+  pub args-out-fine : ResultOnce weave.args.out_fine.Kinds.ps weave.args.out_fine.Kinds.r weave.args.out_fine.Reads.Learnt
+  pub args-payload-fine : ResultOnce weave.args.payload_fine.Kinds.ps weave.args.payload_fine.Kinds.r weave.args.payload_fine.Reads.Learnt
+  pub args-filter-bytes : ResultOnce weave.args.filter_bytes.Kinds.ps weave.args.filter_bytes.Kinds.r weave.args.filter_bytes.Reads.Learnt
+  pub weave-lent-fine : ResultOnce weave.Weave.lent_fine.Kinds.ps weave.Weave.lent_fine.Kinds.r weave.Weave.lent_fine.Reads.Learnt
+  pub weave-running-check : ResultOnce weave.Weave.running_check.Kinds.ps weave.Weave.running_check.Kinds.r weave.Weave.running_check.Reads.Learnt
+  pub weave-handle-fine : ResultOnce weave.Weave.handle_fine.Kinds.ps weave.Weave.handle_fine.Kinds.r weave.Weave.handle_fine.Reads.Learnt
+  pub weave-slot-fine : ResultOnce weave.Weave.slot_fine.Kinds.ps weave.Weave.slot_fine.Kinds.r weave.Weave.slot_fine.Reads.Learnt
+  pub weave-budget-check : ResultOnce weave.Weave.budget_check.Kinds.ps weave.Weave.budget_check.Kinds.r weave.Weave.budget_check.Reads.Learnt
+  pub code-number : ResultOnce weave.Code.number.Kinds.ps weave.Code.number.Kinds.r weave.Code.number.Reads.Learnt
+  pub code-fine : ResultOnce weave.Code.fine.Kinds.ps weave.Code.fine.Kinds.r weave.Code.fine.Reads.Learnt
+  pub code-budget : ResultOnce weave.Code.budget.Kinds.ps weave.Code.budget.Kinds.r weave.Code.budget.Reads.Learnt
+  pub code-then : ResultOnce weave.Code.then.Kinds.ps weave.Code.then.Kinds.r weave.Code.then.Reads.Learnt
+  pub code-reason : ResultOnce weave.Code.reason.Kinds.ps weave.Code.reason.Kinds.r weave.Code.reason.Reads.Learnt
+  pub codes-need : ResultOnce weave.codes.need.Kinds.ps weave.codes.need.Kinds.r weave.codes.need.Reads.Learnt
+  pub mark-code : ResultOnce weave.Mark.code.Kinds.ps weave.Mark.code.Kinds.r weave.Mark.code.Reads.Learnt
+  pub weave-fresh : ResultOnce weave.Weave.fresh.Kinds.ps weave.Weave.fresh.Kinds.r weave.Weave.fresh.Reads.Learnt
+  pub weave-begun : ResultOnce weave.Weave.begun.Kinds.ps weave.Weave.begun.Kinds.r weave.Weave.begun.Reads.Learnt
+  pub weave-paid : ResultOnce weave.Weave.paid.Kinds.ps weave.Weave.paid.Kinds.r weave.Weave.paid.Reads.Learnt
+  pub weave-holding : ResultOnce weave.Weave.holding.Kinds.ps weave.Weave.holding.Kinds.r weave.Weave.holding.Reads.Learnt
+  pub weave-tabled : ResultOnce weave.Weave.tabled.Kinds.ps weave.Weave.tabled.Kinds.r weave.Weave.tabled.Reads.Learnt
+  pub weave-spoilt : ResultOnce weave.Weave.spoilt.Kinds.ps weave.Weave.spoilt.Kinds.r weave.Weave.spoilt.Reads.Learnt
+  pub weave-turned : ResultOnce weave.Weave.turned.Kinds.ps weave.Weave.turned.Kinds.r weave.Weave.turned.Reads.Learnt
+  pub sums-within : ResultOnce weave.sums.within.Kinds.ps weave.sums.within.Kinds.r weave.sums.within.Reads.Learnt
+  pub sums-added : ResultOnce weave.sums.added.Kinds.ps weave.sums.added.Kinds.r weave.sums.added.Reads.Learnt
+  pub sums-record-eighths : ResultOnce weave.sums.record_eighths.Kinds.ps weave.sums.record_eighths.Kinds.r weave.sums.record_eighths.Reads.Learnt
+  pub sums-record-fits : ResultOnce weave.sums.record_fits.Kinds.ps weave.sums.record_fits.Kinds.r weave.sums.record_fits.Reads.Learnt
+  pub sums-staged-with : ResultOnce weave.sums.staged_with.Kinds.ps weave.sums.staged_with.Kinds.r weave.sums.staged_with.Reads.Learnt
+  pub slot-free : ResultOnce weave.Slot.free.Kinds.ps weave.Slot.free.Kinds.r weave.Slot.free.Reads.Learnt
+  pub slot-none : ResultOnce weave.Slot.none.Kinds.ps weave.Slot.none.Kinds.r weave.Slot.none.Reads.Learnt
+  pub table-find-slot : ResultOnce weave.table.find_slot.Kinds.ps weave.table.find_slot.Kinds.r weave.table.find_slot.Reads.Learnt
+  pub table-slot-at : ResultOnce weave.table.slot_at.Kinds.ps weave.table.slot_at.Kinds.r weave.table.slot_at.Reads.Learnt
+  pub table-put-slot : ResultOnce weave.table.put_slot.Kinds.ps weave.table.put_slot.Kinds.r weave.table.put_slot.Reads.Learnt
+  pub args-writeargs-read : ResultOnce weave.args.WriteArgs.read.Kinds.ps weave.args.WriteArgs.read.Kinds.r weave.args.WriteArgs.read.Reads.Learnt
+  pub args-readargs-read : ResultOnce weave.args.ReadArgs.read.Kinds.ps weave.args.ReadArgs.read.Kinds.r weave.args.ReadArgs.read.Reads.Learnt
+  pub args-openargs-read : ResultOnce weave.args.OpenArgs.read.Kinds.ps weave.args.OpenArgs.read.Kinds.r weave.args.OpenArgs.read.Reads.Learnt
+  pub args-nextargs-read : ResultOnce weave.args.NextArgs.read.Kinds.ps weave.args.NextArgs.read.Kinds.r weave.args.NextArgs.read.Reads.Learnt
+  pub weave-cursor-of : ResultOnce weave.Weave.cursor_of.Kinds.ps weave.Weave.cursor_of.Kinds.r weave.Weave.cursor_of.Reads.Learnt
+  pub weave-opened-with : ResultOnce weave.Weave.opened_with.Kinds.ps weave.Weave.opened_with.Kinds.r weave.Weave.opened_with.Reads.Learnt
+  pub weave-moved-to : ResultOnce weave.Weave.moved_to.Kinds.ps weave.Weave.moved_to.Kinds.r weave.Weave.moved_to.Reads.Learnt
+  pub weave-closed-at : ResultOnce weave.Weave.closed_at.Kinds.ps weave.Weave.closed_at.Kinds.r weave.Weave.closed_at.Reads.Learnt
 
-pub weave-args-close-handle : ResultOnce weave.args.close_handle.Kinds.ps weave.args.close_handle.Kinds.r weave.args.close_handle.Reads.Learnt
-weave-args-close-handle κs a z z′ s s′ p q = p ∙ sym q
-
-pub weave-args-bytes-at : SeenOnce weave.args.bytes_at.Kinds.ps weave.args.bytes_at.Kinds.r weave.args.bytes_at.Reads.Learnt (λ κs z s. now z)
-weave-args-bytes-at κs a z z′ s s′ p q = p ∙ sym q
-
-pub weave-args-topic-fine : ResultOnce weave.args.topic_fine.Kinds.ps weave.args.topic_fine.Kinds.r weave.args.topic_fine.Reads.Learnt
-weave-args-topic-fine κs a z z′ s s′ p q = p ∙ sym q
-
-pub weave-args-filter-fine : ResultOnce weave.args.filter_fine.Kinds.ps weave.args.filter_fine.Kinds.r weave.args.filter_fine.Reads.Learnt
-weave-args-filter-fine κs a z z′ s s′ p q = p ∙ sym q
-
-pub weave-args-out-fine : ResultOnce weave.args.out_fine.Kinds.ps weave.args.out_fine.Kinds.r weave.args.out_fine.Reads.Learnt
-weave-args-out-fine κs a z z′ s s′ p q = p ∙ sym q
-
-pub weave-args-payload-fine : ResultOnce weave.args.payload_fine.Kinds.ps weave.args.payload_fine.Kinds.r weave.args.payload_fine.Reads.Learnt
-weave-args-payload-fine κs a z z′ s s′ p q = p ∙ sym q
-
-pub weave-args-filter-bytes : ResultOnce weave.args.filter_bytes.Kinds.ps weave.args.filter_bytes.Kinds.r weave.args.filter_bytes.Reads.Learnt
-weave-args-filter-bytes κs a z z′ s s′ p q = p ∙ sym q
-
-pub weave-weave-lent-fine : ResultOnce weave.Weave.lent_fine.Kinds.ps weave.Weave.lent_fine.Kinds.r weave.Weave.lent_fine.Reads.Learnt
-weave-weave-lent-fine κs a z z′ s s′ p q = p ∙ sym q
-
-pub weave-weave-running-check : ResultOnce weave.Weave.running_check.Kinds.ps weave.Weave.running_check.Kinds.r weave.Weave.running_check.Reads.Learnt
-weave-weave-running-check κs a z z′ s s′ p q = p ∙ sym q
-
-pub weave-weave-handle-fine : ResultOnce weave.Weave.handle_fine.Kinds.ps weave.Weave.handle_fine.Kinds.r weave.Weave.handle_fine.Reads.Learnt
-weave-weave-handle-fine κs a z z′ s s′ p q = p ∙ sym q
-
-pub weave-weave-slot-fine : ResultOnce weave.Weave.slot_fine.Kinds.ps weave.Weave.slot_fine.Kinds.r weave.Weave.slot_fine.Reads.Learnt
-weave-weave-slot-fine κs a z z′ s s′ p q = p ∙ sym q
-
-pub weave-weave-budget-check : ResultOnce weave.Weave.budget_check.Kinds.ps weave.Weave.budget_check.Kinds.r weave.Weave.budget_check.Reads.Learnt
-weave-weave-budget-check κs a z z′ s s′ p q = p ∙ sym q
-
-pub weave-code-number : ResultOnce weave.Code.number.Kinds.ps weave.Code.number.Kinds.r weave.Code.number.Reads.Learnt
-weave-code-number κs a z z′ s s′ p q = p ∙ sym q
-
-pub weave-code-fine : ResultOnce weave.Code.fine.Kinds.ps weave.Code.fine.Kinds.r weave.Code.fine.Reads.Learnt
-weave-code-fine κs a z z′ s s′ p q = p ∙ sym q
-
-pub weave-code-budget : ResultOnce weave.Code.budget.Kinds.ps weave.Code.budget.Kinds.r weave.Code.budget.Reads.Learnt
-weave-code-budget κs a z z′ s s′ p q = p ∙ sym q
-
-pub weave-code-then : ResultOnce weave.Code.then.Kinds.ps weave.Code.then.Kinds.r weave.Code.then.Reads.Learnt
-weave-code-then κs a z z′ s s′ p q = p ∙ sym q
-
-pub weave-code-reason : ResultOnce weave.Code.reason.Kinds.ps weave.Code.reason.Kinds.r weave.Code.reason.Reads.Learnt
-weave-code-reason κs a z z′ s s′ p q = p ∙ sym q
-
-pub weave-codes-need : ResultOnce weave.codes.need.Kinds.ps weave.codes.need.Kinds.r weave.codes.need.Reads.Learnt
-weave-codes-need κs a z z′ s s′ p q = p ∙ sym q
-
-pub weave-mark-code : ResultOnce weave.Mark.code.Kinds.ps weave.Mark.code.Kinds.r weave.Mark.code.Reads.Learnt
-weave-mark-code κs a z z′ s s′ p q = p ∙ sym q
-
-pub weave-weave-fresh : ResultOnce weave.Weave.fresh.Kinds.ps weave.Weave.fresh.Kinds.r weave.Weave.fresh.Reads.Learnt
-weave-weave-fresh κs a z z′ s s′ p q = p ∙ sym q
-
-pub weave-weave-begun : ResultOnce weave.Weave.begun.Kinds.ps weave.Weave.begun.Kinds.r weave.Weave.begun.Reads.Learnt
-weave-weave-begun κs a z z′ s s′ p q = p ∙ sym q
-
-pub weave-weave-paid : ResultOnce weave.Weave.paid.Kinds.ps weave.Weave.paid.Kinds.r weave.Weave.paid.Reads.Learnt
-weave-weave-paid κs a z z′ s s′ p q = p ∙ sym q
-
-pub weave-weave-holding : ResultOnce weave.Weave.holding.Kinds.ps weave.Weave.holding.Kinds.r weave.Weave.holding.Reads.Learnt
-weave-weave-holding κs a z z′ s s′ p q = p ∙ sym q
-
-pub weave-weave-tabled : ResultOnce weave.Weave.tabled.Kinds.ps weave.Weave.tabled.Kinds.r weave.Weave.tabled.Reads.Learnt
-weave-weave-tabled κs a z z′ s s′ p q = p ∙ sym q
-
-pub weave-weave-spoilt : ResultOnce weave.Weave.spoilt.Kinds.ps weave.Weave.spoilt.Kinds.r weave.Weave.spoilt.Reads.Learnt
-weave-weave-spoilt κs a z z′ s s′ p q = p ∙ sym q
-
-pub weave-weave-turned : ResultOnce weave.Weave.turned.Kinds.ps weave.Weave.turned.Kinds.r weave.Weave.turned.Reads.Learnt
-weave-weave-turned κs a z z′ s s′ p q = p ∙ sym q
-
-pub weave-sums-within : ResultOnce weave.sums.within.Kinds.ps weave.sums.within.Kinds.r weave.sums.within.Reads.Learnt
-weave-sums-within κs a z z′ s s′ p q = p ∙ sym q
-
-pub weave-sums-added : ResultOnce weave.sums.added.Kinds.ps weave.sums.added.Kinds.r weave.sums.added.Reads.Learnt
-weave-sums-added κs a z z′ s s′ p q = p ∙ sym q
-
-pub weave-sums-record-eighths : ResultOnce weave.sums.record_eighths.Kinds.ps weave.sums.record_eighths.Kinds.r weave.sums.record_eighths.Reads.Learnt
-weave-sums-record-eighths κs a z z′ s s′ p q = p ∙ sym q
-
-pub weave-sums-record-fits : ResultOnce weave.sums.record_fits.Kinds.ps weave.sums.record_fits.Kinds.r weave.sums.record_fits.Reads.Learnt
-weave-sums-record-fits κs a z z′ s s′ p q = p ∙ sym q
-
-pub weave-sums-staged-with : ResultOnce weave.sums.staged_with.Kinds.ps weave.sums.staged_with.Kinds.r weave.sums.staged_with.Reads.Learnt
-weave-sums-staged-with κs a z z′ s s′ p q = p ∙ sym q
-
-pub weave-slot-free : ResultOnce weave.Slot.free.Kinds.ps weave.Slot.free.Kinds.r weave.Slot.free.Reads.Learnt
-weave-slot-free κs a z z′ s s′ p q = p ∙ sym q
-
-pub weave-slot-none : ResultOnce weave.Slot.none.Kinds.ps weave.Slot.none.Kinds.r weave.Slot.none.Reads.Learnt
-weave-slot-none κs a z z′ s s′ p q = p ∙ sym q
-
-pub weave-table-find-slot : ResultOnce weave.table.find_slot.Kinds.ps weave.table.find_slot.Kinds.r weave.table.find_slot.Reads.Learnt
-weave-table-find-slot κs a z z′ s s′ p q = p ∙ sym q
-
-pub weave-table-slot-at : ResultOnce weave.table.slot_at.Kinds.ps weave.table.slot_at.Kinds.r weave.table.slot_at.Reads.Learnt
-weave-table-slot-at κs a z z′ s s′ p q = p ∙ sym q
-
-pub weave-table-put-slot : ResultOnce weave.table.put_slot.Kinds.ps weave.table.put_slot.Kinds.r weave.table.put_slot.Reads.Learnt
-weave-table-put-slot κs a z z′ s s′ p q = p ∙ sym q
-
-pub weave-args-writeargs-read : ResultOnce weave.args.WriteArgs.read.Kinds.ps weave.args.WriteArgs.read.Kinds.r weave.args.WriteArgs.read.Reads.Learnt
-weave-args-writeargs-read κs a z z′ s s′ p q = p ∙ sym q
-
-pub weave-args-readargs-read : ResultOnce weave.args.ReadArgs.read.Kinds.ps weave.args.ReadArgs.read.Kinds.r weave.args.ReadArgs.read.Reads.Learnt
-weave-args-readargs-read κs a z z′ s s′ p q = p ∙ sym q
-
-pub weave-args-openargs-read : ResultOnce weave.args.OpenArgs.read.Kinds.ps weave.args.OpenArgs.read.Kinds.r weave.args.OpenArgs.read.Reads.Learnt
-weave-args-openargs-read κs a z z′ s s′ p q = p ∙ sym q
-
-pub weave-args-nextargs-read : ResultOnce weave.args.NextArgs.read.Kinds.ps weave.args.NextArgs.read.Kinds.r weave.args.NextArgs.read.Reads.Learnt
-weave-args-nextargs-read κs a z z′ s s′ p q = p ∙ sym q
-
-pub weave-weave-cursor-of : ResultOnce weave.Weave.cursor_of.Kinds.ps weave.Weave.cursor_of.Kinds.r weave.Weave.cursor_of.Reads.Learnt
-weave-weave-cursor-of κs a z z′ s s′ p q = p ∙ sym q
-
-pub weave-weave-opened-with : ResultOnce weave.Weave.opened_with.Kinds.ps weave.Weave.opened_with.Kinds.r weave.Weave.opened_with.Reads.Learnt
-weave-weave-opened-with κs a z z′ s s′ p q = p ∙ sym q
-
-pub weave-weave-moved-to : ResultOnce weave.Weave.moved_to.Kinds.ps weave.Weave.moved_to.Kinds.r weave.Weave.moved_to.Reads.Learnt
-weave-weave-moved-to κs a z z′ s s′ p q = p ∙ sym q
-
-pub weave-weave-closed-at : ResultOnce weave.Weave.closed_at.Kinds.ps weave.Weave.closed_at.Kinds.r weave.Weave.closed_at.Reads.Learnt
-weave-weave-closed-at κs a z z′ s s′ p q = p ∙ sym q
+pub weave-once : WeaveOnce
+weave-once = search met
 
 -- ---- takes on their way
 
-pub takes-begun-begun : ResultOnce takes.begun.begun.Kinds.ps takes.begun.begun.Kinds.r takes.begun.begun.Reads.Learnt
-takes-begun-begun κs a z z′ s s′ p q = p ∙ sym q
+pub record TakesOnce : Type 0 where
+  pub begun-begun : ResultOnce takes.begun.begun.Kinds.ps takes.begun.begun.Kinds.r takes.begun.begun.Reads.Learnt
+  pub buffers-clear-if-s : SeenOnce takes.buffers.clear_if.Kinds.ps takes.buffers.clear_if.Kinds.r takes.buffers.clear_if.Reads.Learnt (λ κs z s. now (s .1 .0))
+  pub buffers-lay-dst : SeenOnce takes.buffers.lay.Kinds.ps takes.buffers.lay.Kinds.r takes.buffers.lay.Reads.Learnt (λ κs z s. now (s .1 .1 .0))
+  pub opening-opening : ResultOnce takes.opening.opening.Kinds.ps takes.opening.opening.Kinds.r takes.opening.opening.Reads.Learnt
+  pub page-page-code : ResultOnce takes.page.page_code.Kinds.ps takes.page.page_code.Kinds.r takes.page.page_code.Reads.Learnt
+  pub page-page-bytes : ResultOnce takes.page.page_bytes.Kinds.ps takes.page.page_bytes.Kinds.r takes.page.page_bytes.Reads.Learnt
+  pub page-find-page : ResultOnce takes.page.find_page.Kinds.ps takes.page.find_page.Kinds.r takes.page.find_page.Reads.Learnt
+  pub page-hand-over : ResultOnce takes.page.hand_over.Kinds.ps takes.page.hand_over.Kinds.r takes.page.hand_over.Reads.Learnt
+  pub page-hand-over-memory : SeenOnce takes.page.hand_over.Kinds.ps takes.page.hand_over.Kinds.r takes.page.hand_over.Reads.Learnt (λ κs z s. now (s .1 .1 .1 .1 .1 .1 .1 .1 .0))
+  pub page-kept-topic : ResultOnce takes.page.kept_topic.Kinds.ps takes.page.kept_topic.Kinds.r takes.page.kept_topic.Reads.Learnt
+  pub stage-fault-code : ResultOnce takes.stage.fault_code.Kinds.ps takes.stage.fault_code.Kinds.r takes.stage.fault_code.Reads.Learnt
+  pub stage-payload-checked : ResultOnce takes.stage.payload_checked.Kinds.ps takes.stage.payload_checked.Kinds.r takes.stage.payload_checked.Reads.Learnt
+  pub stage-stage-staging : SeenOnce takes.stage.stage.Kinds.ps takes.stage.stage.Kinds.r takes.stage.stage.Reads.Learnt (λ κs z s. now (s .1 .0))
+  pub stage-stage-written-staging : SeenOnce takes.stage.stage_written.Kinds.ps takes.stage.stage_written.Kinds.r takes.stage.stage_written.Reads.Learnt (λ κs z s. now (s .1 .0))
 
-pub takes-buffers-clear-if-s : SeenOnce takes.buffers.clear_if.Kinds.ps takes.buffers.clear_if.Kinds.r takes.buffers.clear_if.Reads.Learnt (λ κs z s. now (s .1 .0))
-takes-buffers-clear-if-s κs a z z′ s s′ p q = p ∙ sym q
-
-pub takes-buffers-lay-dst : SeenOnce takes.buffers.lay.Kinds.ps takes.buffers.lay.Kinds.r takes.buffers.lay.Reads.Learnt (λ κs z s. now (s .1 .1 .0))
-takes-buffers-lay-dst κs a z z′ s s′ p q = p ∙ sym q
-
-pub takes-opening-opening : ResultOnce takes.opening.opening.Kinds.ps takes.opening.opening.Kinds.r takes.opening.opening.Reads.Learnt
-takes-opening-opening κs a z z′ s s′ p q = p ∙ sym q
-
-pub takes-page-page-code : ResultOnce takes.page.page_code.Kinds.ps takes.page.page_code.Kinds.r takes.page.page_code.Reads.Learnt
-takes-page-page-code κs a z z′ s s′ p q = p ∙ sym q
-
-pub takes-page-page-bytes : ResultOnce takes.page.page_bytes.Kinds.ps takes.page.page_bytes.Kinds.r takes.page.page_bytes.Reads.Learnt
-takes-page-page-bytes κs a z z′ s s′ p q = p ∙ sym q
-
-pub takes-page-find-page : ResultOnce takes.page.find_page.Kinds.ps takes.page.find_page.Kinds.r takes.page.find_page.Reads.Learnt
-takes-page-find-page κs a z z′ s s′ p q = p ∙ sym q
-
-pub takes-page-hand-over : ResultOnce takes.page.hand_over.Kinds.ps takes.page.hand_over.Kinds.r takes.page.hand_over.Reads.Learnt
-takes-page-hand-over κs a z z′ s s′ p q = p .0 ∙ sym (q .0)
-
-pub takes-page-hand-over-memory : SeenOnce takes.page.hand_over.Kinds.ps takes.page.hand_over.Kinds.r takes.page.hand_over.Reads.Learnt (λ κs z s. now (s .1 .1 .1 .1 .1 .1 .1 .1 .0))
-takes-page-hand-over-memory κs a z z′ s s′ p q = p .1 ∙ sym (q .1)
-
-pub takes-page-kept-topic : ResultOnce takes.page.kept_topic.Kinds.ps takes.page.kept_topic.Kinds.r takes.page.kept_topic.Reads.Learnt
-takes-page-kept-topic κs a z z′ s s′ p q = p ∙ sym q
-
-pub takes-stage-fault-code : ResultOnce takes.stage.fault_code.Kinds.ps takes.stage.fault_code.Kinds.r takes.stage.fault_code.Reads.Learnt
-takes-stage-fault-code κs a z z′ s s′ p q = p ∙ sym q
-
-pub takes-stage-payload-checked : ResultOnce takes.stage.payload_checked.Kinds.ps takes.stage.payload_checked.Kinds.r takes.stage.payload_checked.Reads.Learnt
-takes-stage-payload-checked κs a z z′ s s′ p q = p ∙ sym q
-
-pub takes-stage-stage-staging : SeenOnce takes.stage.stage.Kinds.ps takes.stage.stage.Kinds.r takes.stage.stage.Reads.Learnt (λ κs z s. now (s .1 .0))
-takes-stage-stage-staging κs a z z′ s s′ p q = p ∙ sym q
-
-pub takes-stage-stage-written-staging : SeenOnce takes.stage.stage_written.Kinds.ps takes.stage.stage_written.Kinds.r takes.stage.stage_written.Reads.Learnt (λ κs z s. now (s .1 .0))
-takes-stage-stage-written-staging κs a z z′ s s′ p q = p ∙ sym q
+pub takes-once : TakesOnce
+takes-once = search met
 
 -- ---- the operations
 
-pub host-begin : ResultOnce host.Host.begin.Kinds.ps host.Host.begin.Kinds.r host.Host.begin.Reads.Learnt
-host-begin κs a z z′ s s′ p q = p .0 ∙ sym (q .0)
+pub record HostOnce : Type 0 where
+  pub begin : ResultOnce host.Host.begin.Kinds.ps host.Host.begin.Kinds.r host.Host.begin.Reads.Learnt
+  pub begin-staging : SeenOnce host.Host.begin.Kinds.ps host.Host.begin.Kinds.r host.Host.begin.Reads.Learnt (λ κs z s. now (s .1 .0))
+  pub «open» : ResultOnce host.Host.open.Kinds.ps host.Host.open.Kinds.r host.Host.open.Reads.Learnt
+  pub close : ResultOnce host.Host.close.Kinds.ps host.Host.close.Kinds.r host.Host.close.Reads.Learnt
+  pub module-return : ResultOnce host.Host.module_return.Kinds.ps host.Host.module_return.Kinds.r host.Host.module_return.Reads.Learnt
+  pub module-return-card : SeenOnce host.Host.module_return.Kinds.ps host.Host.module_return.Kinds.r host.Host.module_return.Reads.Learnt (λ κs z s. now (s .1 .1 .0))
+  pub module-return-staging : SeenOnce host.Host.module_return.Kinds.ps host.Host.module_return.Kinds.r host.Host.module_return.Reads.Learnt (λ κs z s. now (s .1 .0))
+  pub fresh : ResultOnce host.Host.fresh.Kinds.ps host.Host.fresh.Kinds.r host.Host.fresh.Reads.Learnt
+  pub mount : ResultOnce host.Host.mount.Kinds.ps host.Host.mount.Kinds.r host.Host.mount.Reads.Learnt
+  pub look-up : SeenOnce host.Host.look_up.Kinds.ps host.Host.look_up.Kinds.r host.Host.look_up.Reads.Learnt (λ κs z s. now z)
+  pub fate-number : ResultOnce host.Fate.number.Kinds.ps host.Fate.number.Kinds.r host.Fate.number.Reads.Learnt
+  pub fate-events : ResultOnce host.Fate.events.Kinds.ps host.Fate.events.Kinds.r host.Fate.events.Reads.Learnt
+  pub fate-kept : ResultOnce host.Fate.kept.Kinds.ps host.Fate.kept.Kinds.r host.Fate.kept.Reads.Learnt
+  pub fate-ends : ResultOnce host.Fate.ends.Kinds.ps host.Fate.ends.Kinds.r host.Fate.ends.Reads.Learnt
 
-pub host-begin-staging : SeenOnce host.Host.begin.Kinds.ps host.Host.begin.Kinds.r host.Host.begin.Reads.Learnt (λ κs z s. now (s .1 .0))
-host-begin-staging κs a z z′ s s′ p q = p .1 ∙ sym (q .1)
+pub host-once : HostOnce
+host-once = search met
 
-pub host-open : ResultOnce host.Host.open.Kinds.ps host.Host.open.Kinds.r host.Host.open.Reads.Learnt
-host-open κs a z z′ s s′ p q = p ∙ sym q
+-- ---- .. that stage events, and that hand them over
 
-pub host-close : ResultOnce host.Host.close.Kinds.ps host.Host.close.Kinds.r host.Host.close.Reads.Learnt
-host-close κs a z z′ s s′ p q = p ∙ sym q
+pub record EventOnce : Type 0 where
+  pub next : ResultOnce host.Host.next.Kinds.ps host.Host.next.Kinds.r host.Host.next.Reads.Learnt
+  pub next-memory : SeenOnce host.Host.next.Kinds.ps host.Host.next.Kinds.r host.Host.next.Reads.Learnt (λ κs z s. now (s .1 .0))
+  pub read : ResultOnce host.Host.read.Kinds.ps host.Host.read.Kinds.r host.Host.read.Reads.Learnt
+  pub read-memory : SeenOnce host.Host.read.Kinds.ps host.Host.read.Kinds.r host.Host.read.Reads.Learnt (λ κs z s. now (s .1 .0))
+  pub ingress : ResultOnce host.Host.ingress.Kinds.ps host.Host.ingress.Kinds.r host.Host.ingress.Reads.Learnt
+  pub ingress-staging : SeenOnce host.Host.ingress.Kinds.ps host.Host.ingress.Kinds.r host.Host.ingress.Reads.Learnt (λ κs z s. now (s .1 .0))
+  pub write : ResultOnce host.Host.write.Kinds.ps host.Host.write.Kinds.r host.Host.write.Reads.Learnt
+  pub write-staging : SeenOnce host.Host.write.Kinds.ps host.Host.write.Kinds.r host.Host.write.Reads.Learnt (λ κs z s. now (s .1 .1 .0))
 
-pub host-module-return : ResultOnce host.Host.module_return.Kinds.ps host.Host.module_return.Kinds.r host.Host.module_return.Reads.Learnt
-host-module-return κs a z z′ s s′ p q = p .0 ∙ sym (q .0)
-
-pub host-module-return-card : SeenOnce host.Host.module_return.Kinds.ps host.Host.module_return.Kinds.r host.Host.module_return.Reads.Learnt (λ κs z s. now (s .1 .1 .0))
-host-module-return-card κs a z z′ s s′ p q = p .1 .0 ∙ sym (q .1 .0)
-
-pub host-module-return-staging : SeenOnce host.Host.module_return.Kinds.ps host.Host.module_return.Kinds.r host.Host.module_return.Reads.Learnt (λ κs z s. now (s .1 .0))
-host-module-return-staging κs a z z′ s s′ p q = p .1 .1 ∙ sym (q .1 .1)
-
-pub host-fresh : ResultOnce host.Host.fresh.Kinds.ps host.Host.fresh.Kinds.r host.Host.fresh.Reads.Learnt
-host-fresh κs a z z′ s s′ p q = p ∙ sym q
-
-pub host-mount : ResultOnce host.Host.mount.Kinds.ps host.Host.mount.Kinds.r host.Host.mount.Reads.Learnt
-host-mount κs a z z′ s s′ p q = p ∙ sym q
-
-pub host-look-up : SeenOnce host.Host.look_up.Kinds.ps host.Host.look_up.Kinds.r host.Host.look_up.Reads.Learnt (λ κs z s. now z)
-host-look-up κs a z z′ s s′ p q = p ∙ sym q
-
-pub host-next : ResultOnce host.Host.next.Kinds.ps host.Host.next.Kinds.r host.Host.next.Reads.Learnt
-host-next κs a z z′ s s′ p q = p .0 ∙ sym (q .0)
-
-pub host-next-memory : SeenOnce host.Host.next.Kinds.ps host.Host.next.Kinds.r host.Host.next.Reads.Learnt (λ κs z s. now (s .1 .0))
-host-next-memory κs a z z′ s s′ p q = p .1 ∙ sym (q .1)
-
-pub host-fate-number : ResultOnce host.Fate.number.Kinds.ps host.Fate.number.Kinds.r host.Fate.number.Reads.Learnt
-host-fate-number κs a z z′ s s′ p q = p ∙ sym q
-
-pub host-fate-events : ResultOnce host.Fate.events.Kinds.ps host.Fate.events.Kinds.r host.Fate.events.Reads.Learnt
-host-fate-events κs a z z′ s s′ p q = p ∙ sym q
-
-pub host-fate-kept : ResultOnce host.Fate.kept.Kinds.ps host.Fate.kept.Kinds.r host.Fate.kept.Reads.Learnt
-host-fate-kept κs a z z′ s s′ p q = p ∙ sym q
-
-pub host-fate-ends : ResultOnce host.Fate.ends.Kinds.ps host.Fate.ends.Kinds.r host.Fate.ends.Reads.Learnt
-host-fate-ends κs a z z′ s s′ p q = p ∙ sym q
-
-pub host-read : ResultOnce host.Host.read.Kinds.ps host.Host.read.Kinds.r host.Host.read.Reads.Learnt
-host-read κs a z z′ s s′ p q = p .0 ∙ sym (q .0)
-
-pub host-read-memory : SeenOnce host.Host.read.Kinds.ps host.Host.read.Kinds.r host.Host.read.Reads.Learnt (λ κs z s. now (s .1 .0))
-host-read-memory κs a z z′ s s′ p q = p .1 ∙ sym (q .1)
-
-pub host-ingress : ResultOnce host.Host.ingress.Kinds.ps host.Host.ingress.Kinds.r host.Host.ingress.Reads.Learnt
-host-ingress κs a z z′ s s′ p q = p .0 ∙ sym (q .0)
-
-pub host-ingress-staging : SeenOnce host.Host.ingress.Kinds.ps host.Host.ingress.Kinds.r host.Host.ingress.Reads.Learnt (λ κs z s. now (s .1 .0))
-host-ingress-staging κs a z z′ s s′ p q = p .1 ∙ sym (q .1)
-
-pub host-write : ResultOnce host.Host.write.Kinds.ps host.Host.write.Kinds.r host.Host.write.Reads.Learnt
-host-write κs a z z′ s s′ p q = p .0 ∙ sym (q .0)
-
-pub host-write-staging : SeenOnce host.Host.write.Kinds.ps host.Host.write.Kinds.r host.Host.write.Reads.Learnt (λ κs z s. now (s .1 .1 .0))
-host-write-staging κs a z z′ s s′ p q = p .1 ∙ sym (q .1)
+pub event-once : EventOnce
+event-once = search met

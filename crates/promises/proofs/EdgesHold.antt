@@ -1,18 +1,19 @@
 -- Every case of the table holds: one test that antt computes over the whole table, and one law that turns it into the cases.
 -- Assumes nothing.
-use mathlib.Core.Path.{_≡_, refl, sym, ap, _∙_}
-use mathlib.Core.Bool.{Bool, true, false, not, _&&_, Bool·beq}
-use lib.IntN.{ℤ}
+use mathlib.Core.Path.{_≡_, refl, sym, ap, subst, _∙_}
+use mathlib.Core.Bool.{Bool, true, false, not, _&&_, _||_, cond, Bool·beq}
+use lib.IntN.{ℤ, pos, negsuc}
 use mathlib.Core.List.{List, [], _∷_}
-use Prim.Native.Nat.{ℕ, zero, suc, _<_}
+use Prim.Native.Nat.{ℕ, zero, suc, _+_, _-_, _≤_, _<_}
+use native.Mathlib.Omega.{arith}
+use borrow.Author.Tests.{leb-true}
 use native.Mathlib.Nat.{not-suc-le-zero, le-of-suc-le-suc}
-use lib.Dec.{T, eqb, eqb→eq}
+use lib.Dec.{T, leb, eqb, eqb→eq}
 use lib.ListN.{length, getD}
 use Rattle.le.specs.Le.{leAt, leBytes}
 use Rattle.le.specs.Splice.{part}
 use Rattle.text.specs.Utf8.{after, utf8From, utf8}
 use Rattle.text.specs.Topic.{goodTopic, goodText, noControl}
-use Rattle.text.specs.Compare.{prefixOf}
 use Rattle.text.specs.Span.{inside}
 use Rattle.text.specs.Sizes.{totalLen}
 use Rattle.text.specs.Flags.{goodFlags}
@@ -21,46 +22,37 @@ use Rattle.value.specs.Cells.{cellAt, cellBytes}
 use Rattle.value.specs.Scalars.{canonical}
 use Rattle.value.specs.Values.{decoded, textFault, valueFault}
 use Rattle.value.specs.Forms.{formOf, payload}
-use Rattle.record.specs.Pieces.{bytesOf, encode}
-use Rattle.record.specs.Record.{recordBytes, topicOf}
-use Rattle.card.specs.Pick.{only}
-use Rattle.card.specs.Listing.{filterOf, turn, listOf, fit, pageOf}
-use Rattle.card.specs.declared.Page.{Page}
+use Rattle.card.specs.Listing.{pageOf}
 use Rattle.card.specs.declared.Page.the-variants.{End, Short, Bytes}
 use Rattle.weave.specs.declared.Code.{Code}
 use Rattle.weave.specs.declared.Code.the-variants.{Fine, Denied, NotNow, Unsound, NoRoom, Bad, Budget, BadValue}
 use Rattle.weave.specs.declared.Spoiled.the-variants.{Not}
-use Rattle.weave.specs.Codes.{isFine, first, reasonOf}
-use Rattle.host.specs.declared.Host.{Host}
+use Rattle.weave.specs.Codes.{isFine, first, need, reasonOf}
+use Rattle.weave.specs.Args.{nextArgs}
+use Rattle.takes.specs.Pages.{pageBytes}
+use Rattle.le.proofs.TestLaws.{Tested, passes, fails, tested}
 use Rattle.host.specs.declared.Fate.the-variants.{Discarded}
-use Rattle.host.specs.Hosts.{Lent}
-use Rattle.host.specs.Ending.{returnCheck, whyNot, fateOf}
-use Rattle.promises.specs.Edges.{Case, total, stored, flags, span, float, topic, text, page, returned, twoTakes, cursorOver, Holds, edges}
+use Rattle.host.specs.Ending.{returnCheck, whyNot, fateOf, returnAnswer}
+use Rattle.promises.specs.Box.{World, Return, Ended, step}
+use Rattle.promises.specs.Outcome.{Returns}
+use Rattle.promises.specs.Turn.{listLeft}
+use Rattle.promises.proofs.NextHolds.{pageSays, next-says, two-left, window-none, limit-none}
+use Rattle.promises.specs.Edges.{Case, total, stored, flags, span, float, topic, text, window, twoLeft, returned, Holds, edges}
 
 -- ---- answers that are found the same are equal
 
-samePage : Page → Page → Bool
-samePage End End = true
-samePage End Short = false
-samePage End (Bytes m) = false
-samePage Short End = false
-samePage Short Short = true
-samePage Short (Bytes m) = false
-samePage (Bytes n) End = false
-samePage (Bytes n) Short = false
-samePage (Bytes n) (Bytes m) = eqb n m
+sameNumber : ℤ → ℤ → Bool
+sameNumber (pos n) (pos m) = eqb n m
+sameNumber (pos n) (negsuc m) = false
+sameNumber (negsuc n) (pos m) = false
+sameNumber (negsuc n) (negsuc m) = eqb n m
 
-same-page : (p q : Page) → T (samePage p q) → p ≡ q
-unfolding samePage
-same-page End End t = refl
-same-page End Short t = absurd t
-same-page End (Bytes m) t = absurd t
-same-page Short End t = absurd t
-same-page Short Short t = refl
-same-page Short (Bytes m) t = absurd t
-same-page (Bytes n) End t = absurd t
-same-page (Bytes n) Short t = absurd t
-same-page (Bytes n) (Bytes m) t = ap Bytes (eqb→eq n m t)
+same-number : (x y : ℤ) → T (sameNumber x y) → x ≡ y
+unfolding sameNumber
+same-number (pos n) (pos m) t = ap pos (eqb→eq n m t)
+same-number (pos n) (negsuc m) t = absurd t
+same-number (negsuc n) (pos m) t = absurd t
+same-number (negsuc n) (negsuc m) t = ap negsuc (eqb→eq n m t)
 
 -- a code's place in the paper's table
 place : Code → ℕ
@@ -101,10 +93,34 @@ untrue true t = absurd t
 untrue false t = refl
 
 -- a return whose code is a reason discards with it
-discards : (l : Lent) (h : Host) (code : ℤ) (c : Code) → isFine (returnCheck l h) ≡ true → h .weave .spoiled .0 ≡ Not → reasonOf code ≡ c → isFine c ≡ false
-    → fateOf l h code ≡ Discarded c
-unfolding fateOf whyNot first
-discards l h code c f u e n = rw (f, u, e, n)
+discards : (w : World) (code : ℤ) (c : Code) → Returns w → w .host .weave .spoiled .0 ≡ Not → reasonOf code ≡ c → isFine c ≡ false
+    → step w (Return code) .said ≡ Ended (Discarded c)
+unfolding step returnAnswer fateOf returnCheck whyNot first need
+discards w code c r u e n = rw (r .check-1, r .running, u, e, n)
+
+-- a next into k bytes where two records of 152 are left
+twoSays : ℕ → ℤ
+twoSays k = pageSays (cond (leb 152 k) (Bytes (152 + cond (leb 152 (k - 152)) 152 0)) Short)
+
+two-says : (k : ℕ) → Holds (twoLeft k (twoSays k))
+unfolding twoSays
+two-says k w m a r s ready c e x y = next-says w m a _ (two-left w m a r s k c e x y) 304 ready (go (leb 152 k) (leb 152 (k - 152)))
+  where
+    go : (t u : Bool) → pageBytes (cond t (Bytes (152 + cond u 152 0)) Short) ≤ 304
+    go true true = omega arith
+    go true false = omega arith
+    go false u = omega arith
+
+-- a window that is empty, or no limit: nothing is left
+none-says : (from to limit : ℕ) → T (leb to from || eqb limit 0) → Holds (window from to limit (pos 0))
+unfolding pageOf
+none-says from to limit t w m a ready f g e =
+    let empty : listLeft w (nextArgs m a .handle) ≡ [] = go (tested (leb to from)) in
+    next-says w m a End (rw empty) 0 ready (omega arith)
+  where
+    go : Tested (leb to from) → listLeft w (nextArgs m a .handle) ≡ []
+    go (passes q) = window-none w m a (rw (f, g) (leb-true to from q))
+    go (fails q) = limit-none w m a (e ∙ eqb→eq limit 0 (rw q at t))
 
 test : Case → Bool
 test (total t d n) = eqb (totalLen t d) n
@@ -114,7 +130,8 @@ test (span ptr len m b) = Bool·beq (inside ptr len m) b
 test (float x n) = eqb (canonical x) n
 test (topic s b) = Bool·beq (goodTopic s) b
 test (text s b) = Bool·beq (utf8 s) b
-test (page from to limit cap p) = samePage (pageOf cap (listOf (λ (t : List ℕ). true) (cursorOver from to limit) twoTakes)) p
+test (window from to limit z) = (leb to from || eqb limit 0) && sameNumber (pos 0) z
+test (twoLeft k z) = sameNumber (twoSays k) z
 test (returned code c) = not (isFine c) && sameCode (reasonOf code) c
 
 met : (c : Case) → T (test c) → Holds c
@@ -126,8 +143,11 @@ met (span ptr len m b) p = same-answer (inside ptr len m) b p
 met (float x n) p = eqb→eq (canonical x) n p
 met (topic s b) p = same-answer (goodTopic s) b p
 met (text s b) p = same-answer (utf8 s) b p
-met (page from to limit cap q) p = same-page (pageOf cap (listOf (λ (t : List ℕ). true) (cursorOver from to limit) twoTakes)) q p
-met (returned code c) p = λ l h f u. discards l h code c f u (same-code (reasonOf code) c (right (not (isFine c)) (sameCode (reasonOf code) c) p)) (untrue (isFine c) (left (not (isFine c)) (sameCode (reasonOf code) c) p))
+met (window from to limit z) p =
+    subst (λ (x : ℤ). Holds (window from to limit x)) (same-number (pos 0) z (right (leb to from || eqb limit 0) (sameNumber (pos 0) z) p))
+    (none-says from to limit (left (leb to from || eqb limit 0) (sameNumber (pos 0) z) p))
+met (twoLeft k z) p = subst (λ (x : ℤ). Holds (twoLeft k x)) (same-number (twoSays k) z p) (two-says k)
+met (returned code c) p = λ w f u. discards w code c f u (same-code (reasonOf code) c (right (not (isFine c)) (sameCode (reasonOf code) c) p)) (untrue (isFine c) (left (not (isFine c)) (sameCode (reasonOf code) c) p))
 
 every : List Case → Bool
 every [] = true
@@ -141,5 +161,5 @@ from (c ∷ cs) t (suc k) h d = from cs (right (test c) (every cs) t) k (le-of-s
 
 -- the one claim: each case of the table holds
 pub edges-hold : (k : ℕ) → k < length edges → (d : Case) → Holds (getD edges k d)
-unfolding edges every test after utf8From utf8 goodText noControl goodFlags inside canonical leAt leBytes part cellAt cellBytes decoded textFault valueFault formOf payload samePage sameCode place twoTakes recordBytes encode bytesOf topicOf only filterOf turn listOf fit pageOf prefixOf reasonOf
+unfolding edges every test after utf8From utf8 goodText noControl goodFlags inside canonical leAt leBytes part cellAt cellBytes decoded textFault valueFault formOf payload sameNumber twoSays sameCode place reasonOf
 edges-hold k h d = from edges tt k h d

@@ -1,8 +1,8 @@
 -- The list of a cursor, in 01's words: what is in it, what is not, and how long it is.
 -- Assumes nothing.
-use mathlib.Core.Path.{_≡_}
-use mathlib.Core.Bool.{Bool, true}
-use mathlib.Core.List.{List, [], _∷_, List·Memᴰ}
+use mathlib.Core.Path.{_≡_, refl}
+use mathlib.Core.Bool.{Bool, true, false}
+use mathlib.Core.List.{List, [], _∷_, List·Memᴰ, List·Memᴰ·head, List·Memᴰ·tail}
 use Prim.Native.Nat.{ℕ, _≤_}
 use native.Mathlib.Omega.{arith}
 use native.Mathlib.Nat.{min-le-left}
@@ -13,13 +13,14 @@ use Rattle.le.proofs.TestLaws.{and-left, and-right, and-both}
 use Rattle.text.specs.Compare.{prefixOf}
 use Rattle.record.specs.Record.{idOf, topicOf}
 use Rattle.card.specs.Pick.{All, only}
-use Rattle.card.specs.Listing.{filterOf, listed, turn, listOf}
+use Rattle.card.specs.Listing.{filterOf, listed, turn, listOf, Rising, Before}
 use Rattle.card.specs.declared.Cursor.{Cursor}
-use Rattle.card.proofs.ListingLaws.{listed-all, listed-every}
-use Rattle.promises.specs.Turn.{Allowed}
+use Rattle.card.proofs.ListingLaws.{listed-all, listed-every, sorted-turn}
+use Rattle.card.proofs.PickLaws.{all-map, all-only, all-reverse, mem-only, mem-reverse, only-passes, sorted-only}
+use Rattle.promises.specs.Turn.{Allowed, ListedOf}
 
 module _ (may : List ℕ → Bool) (c : Cursor) where
-  listed-means : (r : List ℕ) → listed may c r ≡ true → Allowed may c r
+  pub listed-means : (r : List ℕ) → listed may c r ≡ true → Allowed may c r
   listed-means r e =
       let asks = and-right (may (topicOf r)) _ e in
       let window = and-right (prefixOf (filterOf c) (topicOf r)) _ asks in
@@ -30,19 +31,15 @@ module _ (may : List ℕ → Bool) (c : Cursor) where
         to = ltb-true (idOf r) (c .to .0) (and-right (leb (c .from .0) (idOf r)) _ window);
       }
 
-  means-listed : (r : List ℕ) → Allowed may c r → listed may c r ≡ true
+  pub means-listed : (r : List ℕ) → Allowed may c r → listed may c r ≡ true
   means-listed r a =
       and-both (may (topicOf r)) _ (a .granted)
       (and-both (prefixOf (filterOf c) (topicOf r)) _ (a .begins)
       (and-both (leb (c .from .0) (idOf r)) _ (le-leb (c .from .0) (idOf r) (a .from)) (lt-ltb (idOf r) (c .to .0) (a .to))))
 
-  all-means : (rs : List (List ℕ)) → All (λ (r : List ℕ). listed may c r ≡ true) rs → All (Allowed may c) rs
-  all-means [] a = tt
-  all-means (r ∷ rs) a = (listed-means r (a .0), all-means rs (a .1))
-
   -- every event of the list is allowed
   pub all-allowed : (rs : List (List ℕ)) → All (Allowed may c) (listOf may c rs)
-  all-allowed rs = all-means (listOf may c rs) (listed-all may c rs)
+  all-allowed rs = all-map (λ (r : List ℕ). listed may c r ≡ true) (Allowed may c) listed-means (listOf may c rs) (listed-all may c rs)
 
   -- every event that is allowed is in the list, where the limit does not cut it
   pub every-allowed : (rs : List (List ℕ)) (r : List ℕ) → List·Memᴰ r rs → Allowed may c r → length (only (listed may c) (turn (c .desc) rs)) ≤ c .limit
@@ -53,3 +50,29 @@ module _ (may : List ℕ → Bool) (c : Cursor) where
   pub within-limit : (rs : List (List ℕ)) → length (listOf may c rs) ≤ c .limit
   unfolding listOf
   within-limit rs = omega (arith, length-take (c .limit) (only (listed may c) (turn (c .desc) rs)), min-le-left (c .limit) (length (only (listed may c) (turn (c .desc) rs))))
+
+-- ---- all that are allowed, and the limit
+
+pub members : (rs : List (List ℕ)) → All (λ (r : List ℕ). List·Memᴰ r rs) rs
+members [] = tt
+members (r ∷ rs) = (List·Memᴰ·head refl, all-map (λ (x : List ℕ). List·Memᴰ x rs) (λ (x : List ℕ). List·Memᴰ x (r ∷ rs)) (λ x m. List·Memᴰ·tail m) rs (members rs))
+
+turned-all : (P : List ℕ → Type 0) (d : Bool) (rs : List (List ℕ)) → All P rs → All P (turn d rs)
+unfolding turn
+turned-all P false rs a = a
+turned-all P true rs a = all-reverse P rs a
+
+turned-mem : (r : List ℕ) (d : Bool) (rs : List (List ℕ)) → List·Memᴰ r rs → List·Memᴰ r (turn d rs)
+unfolding turn
+turned-mem r false rs m = m
+turned-mem r true rs m = mem-reverse r rs m
+
+pub all-listed : (may : List ℕ → Bool) (c : Cursor) (rs : List (List ℕ)) → Rising rs → ListedOf may c rs (only (listed may c) (turn (c .desc) rs))
+unfolding listOf
+all-listed may c rs up = record {
+  every = λ r m a. mem-only (listed may c) r (turn (c .desc) rs) (means-listed may c r a) (turned-mem r (c .desc) rs m);
+  of-these = all-only (λ (r : List ℕ). List·Memᴰ r rs) (listed may c) (turn (c .desc) rs) (turned-all (λ (r : List ℕ). List·Memᴰ r rs) (c .desc) rs (members rs));
+  none-besides = all-map (λ (r : List ℕ). listed may c r ≡ true) (Allowed may c) (listed-means may c) (only (listed may c) (turn (c .desc) rs)) (only-passes (listed may c) (turn (c .desc) rs));
+  in-order = sorted-only (Before (c .desc)) (listed may c) (turn (c .desc) rs) (sorted-turn (c .desc) rs up);
+  head = refl;
+}

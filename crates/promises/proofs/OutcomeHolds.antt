@@ -1,17 +1,17 @@
 -- Promise 2: a return answers committed exactly when 01's conditions hold, with the counts of what is staged.
 -- Assumes nothing.
 use mathlib.Core.Path.{_≡_, refl, sym, ap, _∙_}
-use mathlib.Core.Bool.{Bool, true, false, cond, true≢false}
+use mathlib.Core.Bool.{true, false, true≢false}
 use mathlib.Core.List.{[], _∷_}
 use mathlib.Core.Logic.{_↔_, _⊎_, inl, inr}
-use Prim.Native.Nat.{ℕ, zero, suc, _+_, _^_}
+use Prim.Native.Nat.{ℕ, zero, suc, _+_, _^_, _≤_, _<_}
 use native.Mathlib.Omega.{arith}
-use borrow.Author.Tests.{leb-true, le-leb, lt-leb, ltb-false, le-ltb}
+use borrow.Author.Tests.{leb-true, le-leb, lt-leb, ltb-true, ltb-false, le-ltb}
 use lib.Dec.{ltb}
 use lib.IntN.{ℤ, pos, negsuc}
 use lib.ListN.{length, getD}
+use Rattle.le.proofs.TestLaws.{Tested, passes, fails, tested}
 use Rattle.manifest.specs.Saying.{modulesSaid, manifestOf}
-use Rattle.weave.specs.declared.Code.{Code}
 use Rattle.weave.specs.declared.Code.the-variants.{Denied, NotNow, Unsound, NoRoom, Bad, Budget, BadValue}
 use Rattle.weave.specs.declared.Spoiled.{Spoiled}
 use Rattle.weave.specs.declared.Spoiled.the-variants.{Not, Overspent, Panicked}
@@ -22,7 +22,6 @@ use Rattle.host.specs.declared.Host.{Host}
 use Rattle.host.specs.declared.Fate.{Fate}
 use Rattle.host.specs.declared.Fate.the-variants.{Refused, Discarded, Running, Committed}
 use Rattle.host.specs.Hosts.{Lent, lentCheck}
-use Rattle.host.specs.Fates.{fateEvents, kept}
 use Rattle.host.specs.Ending.{returnCheck, whyNot, lastCheck, fateOf, returnAnswer}
 use Rattle.promises.specs.Box.{World, Return, Said, Answered, Ended, Part, step}
 use Rattle.promises.specs.Outcome.{Conditions}
@@ -30,34 +29,33 @@ use Rattle.promises.proofs.AcceptedLaws.{lawful}
 
 -- ---- the choice of a fate, over its tests
 
-abbrev isCommitted : Fate → Bool
-isCommitted (Refused c) = false
-isCommitted (Discarded c) = false
-isCommitted Running = false
-isCommitted (Committed events bytes) = true
+abbrev pub lastModule : Lent → ℕ
+lastModule l = modulesSaid (manifestOf (l .text))
 
-record Chosen (a b c d : Bool) (n s e k : ℕ) : Type 0 where
-  first′ : a ≡ true
-  second′ : b ≡ true
-  third′ : c ≡ false
-  fourth′ : d ≡ true
-  events′ : e ≡ n
-  bytes′ : k ≡ s
+pub data Fated (l : Lent) (h : Host) (code : ℤ) : Type 0 where
+  turned-away : isFine (returnCheck l h) ≡ false → fateOf l h code ≡ Refused (returnCheck l h) → Fated l h code
+  has-reason : isFine (returnCheck l h) ≡ true → isFine (whyNot h code) ≡ false → fateOf l h code ≡ Discarded (whyNot h code) → Fated l h code
+  turns-on : isFine (returnCheck l h) ≡ true → isFine (whyNot h code) ≡ true → h .weave .turn < lastModule l → fateOf l h code ≡ Running → Fated l h code
+  ends-badly : isFine (returnCheck l h) ≡ true → isFine (whyNot h code) ≡ true → lastModule l ≤ h .weave .turn → isFine (lastCheck l h) ≡ false
+      → fateOf l h code ≡ Discarded (lastCheck l h) → Fated l h code
+  ends-well : isFine (returnCheck l h) ≡ true → isFine (whyNot h code) ≡ true → lastModule l ≤ h .weave .turn → isFine (lastCheck l h) ≡ true
+      → fateOf l h code ≡ Committed (h .weave .count) (h .weave .staged) → Fated l h code
 
-module _ (n s : ℕ) (x y z : Code) (e k : ℕ) where
-  abbrev choice : Bool → Bool → Bool → Bool → Fate
-  choice a b c d = cond a (cond b (cond c Running (cond d (Committed n s) (Discarded x))) (Discarded y)) (Refused z)
+pub fated : (l : Lent) (h : Host) (code : ℤ) → Fated l h code
+unfolding fateOf
+fated l h code = go (tested (isFine (returnCheck l h))) (tested (isFine (whyNot h code))) (tested (ltb (h .weave .turn) (lastModule l))) (tested (isFine (lastCheck l h)))
+  where
+    go : Tested (isFine (returnCheck l h)) → Tested (isFine (whyNot h code)) → Tested (ltb (h .weave .turn) (lastModule l)) → Tested (isFine (lastCheck l h)) → Fated l h code
+    go (fails a) b c d = turned-away a (rw a)
+    go (passes a) (fails b) c d = has-reason a b (rw (a, b))
+    go (passes a) (passes b) (passes c) d = turns-on a b (ltb-true (h .weave .turn) (lastModule l) c) (rw (a, b, c))
+    go (passes a) (passes b) (fails c) (fails d) = ends-badly a b (ltb-false (h .weave .turn) (lastModule l) c) d (rw (a, b, c, d))
+    go (passes a) (passes b) (fails c) (passes d) = ends-well a b (ltb-false (h .weave .turn) (lastModule l) c) d (rw (a, b, c, d))
 
-  no : (f : Fate) → isCommitted f ≡ false → f ≡ Committed e k → ⊥
-  no f i q = true≢false (sym (ap isCommitted q) ∙ i)
-
-  chosen : (a b c d : Bool) → choice a b c d ≡ Committed e k → Chosen a b c d n s e k
-  chosen true true false true q =
-      record { first′ = refl; second′ = refl; third′ = refl; fourth′ = refl; events′ = sym (ap fateEvents q); bytes′ = sym (ap kept q) }
-  chosen true true false false q = absurd (no (Discarded x) refl q)
-  chosen true true true d q = absurd (no Running refl q)
-  chosen true false c d q = absurd (no (Discarded y) refl q)
-  chosen false b c d q = absurd (no (Refused z) refl q)
+-- a return that is not refused is asked in a weave
+pub return-runs : (l : Lent) (h : Host) → isFine (returnCheck l h) ≡ true → h .weave .running ≡ true
+unfolding returnCheck
+return-runs l h f = need-test _ NotNow refl (first-right (lentCheck l h) (need (h .weave .running) NotNow) f)
 
 abbrev pub fateIn : Said → Fate
 fateIn (Answered c v) = Running
@@ -81,14 +79,14 @@ none-fine (suc (suc (suc (suc (suc zero))))) = refl
 none-fine (suc (suc (suc (suc (suc (suc zero)))))) = refl
 none-fine (suc (suc (suc (suc (suc (suc (suc n))))))) = refl
 
-good-code : (z : ℤ) → isFine (reasonOf z) ≡ true → (z ≡ pos 0) ⊎ (z ≡ pos 1)
+pub good-code : (z : ℤ) → isFine (reasonOf z) ≡ true → (z ≡ pos 0) ⊎ (z ≡ pos 1)
 unfolding reasonOf
 good-code (pos zero) e = inl refl
 good-code (pos (suc zero)) e = inr refl
 good-code (pos (suc (suc n))) e = absurd (true≢false (sym e ∙ rw (lt-leb (suc (suc n)) 1 (omega arith))))
 good-code (negsuc n) e = absurd (true≢false (sym e ∙ none-fine n))
 
-code-good : (z : ℤ) → (z ≡ pos 0) ⊎ (z ≡ pos 1) → isFine (reasonOf z) ≡ true
+pub code-good : (z : ℤ) → (z ≡ pos 0) ⊎ (z ≡ pos 1) → isFine (reasonOf z) ≡ true
 unfolding reasonOf
 code-good z (inl e) = rw e
 code-good z (inr e) = rw e
@@ -96,26 +94,31 @@ code-good z (inr e) = rw e
 -- ---- both directions
 
 module _ (l : Lent) (h : Host) (code : ℤ) where
-  pub conditions : (e k : ℕ) → fateOf l h code ≡ Committed e k → Conditions l h code × ((e ≡ h .weave .count) × (k ≡ h .weave .staged))
-  unfolding fateOf returnCheck whyNot lastCheck
-  conditions e k q =
-      let c = chosen (h .weave .count) (h .weave .staged) (lastCheck l h) (whyNot h code) (returnCheck l h) e k
-      (isFine (returnCheck l h)) (isFine (whyNot h code)) (ltb (h .weave .turn) (modulesSaid (manifestOf (l .text)))) (isFine (lastCheck l h)) q in
-      let one = first-left (lentCheck l h) (need (h .weave .running) NotNow) (c .first′) in
-      let two = need-test _ NotNow refl (first-right (lentCheck l h) (need (h .weave .running) NotNow) (c .first′)) in
+  ends-conditions : isFine (returnCheck l h) ≡ true → isFine (whyNot h code) ≡ true → lastModule l ≤ h .weave .turn → isFine (lastCheck l h) ≡ true → Conditions l h code
+  unfolding returnCheck whyNot lastCheck
+  ends-conditions a b c d =
+      let one = first-left (lentCheck l h) (need (h .weave .running) NotNow) a in
+      let two = return-runs l h a in
       let law = lawful l h one in
-      let sums = added-sum (h .next .0) (h .weave .count) (2 ^ 63) (law .numbers) in (
-        record {
-          check-1 = one;
-          running = two;
-          unspoiled = unspoilt (h .weave .spoiled .0) (first-left (spoiledCode (h .weave .spoiled)) (reasonOf code) (c .second′));
-          zero-or-one = good-code code (first-right (spoiledCode (h .weave .spoiled)) (reasonOf code) (c .second′));
-          last = omega (arith, law .turn-most two, ltb-false (h .weave .turn) (modulesSaid (manifestOf (l .text))) (c .third′));
-          sound = rw sums at (need-test _ Unsound refl (first-left (need _ Unsound) (need _ NoRoom) (c .fourth′)));
-          fits = leb-true (h .used + h .weave .staged) (length (l .card)) (need-test _ NoRoom refl (first-right (need _ Unsound) (need _ NoRoom) (c .fourth′)));
-        },
-        (c .events′, c .bytes′),
-      )
+      record {
+        check-1 = one;
+        running = two;
+        unspoiled = unspoilt (h .weave .spoiled .0) (first-left (spoiledCode (h .weave .spoiled)) (reasonOf code) b);
+        zero-or-one = good-code code (first-right (spoiledCode (h .weave .spoiled)) (reasonOf code) b);
+        last = omega (arith, law .turn-most two);
+        sound = rw (added-sum (h .next .0) (h .weave .count) (2 ^ 63) (law .numbers)) at (need-test _ Unsound refl (first-left (need _ Unsound) (need _ NoRoom) d));
+        fits = leb-true (h .used + h .weave .staged) (length (l .card)) (need-test _ NoRoom refl (first-right (need _ Unsound) (need _ NoRoom) d));
+      }
+
+  pub conditions : (e k : ℕ) → fateOf l h code ≡ Committed e k → Conditions l h code × ((e ≡ h .weave .count) × (k ≡ h .weave .staged))
+  conditions e k q = go (fated l h code)
+    where
+      go : Fated l h code → Conditions l h code × ((e ≡ h .weave .count) × (k ≡ h .weave .staged))
+      go (turned-away a p) = let z : _≡_ {A = ℕ} 0 1 = cc in absurd (omega arith)
+      go (has-reason a b p) = let z : _≡_ {A = ℕ} 0 1 = cc in absurd (omega arith)
+      go (turns-on a b c p) = let z : _≡_ {A = ℕ} 0 1 = cc in absurd (omega arith)
+      go (ends-badly a b c d p) = let z : _≡_ {A = ℕ} 0 1 = cc in absurd (omega arith)
+      go (ends-well a b c d p) = (ends-conditions a b c d, (cc, cc))
 
   pub commits : Conditions l h code → fateOf l h code ≡ Committed (h .weave .count) (h .weave .staged)
   unfolding fateOf returnCheck whyNot lastCheck first need

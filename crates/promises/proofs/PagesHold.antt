@@ -6,10 +6,10 @@ use mathlib.Core.List.{List, [], _∷_, _++_, append-assoc}
 use mathlib.Core.Logic.{_↔_}
 use Prim.Native.Nat.{ℕ, suc, _+_, _≤_, _<_}
 use native.Mathlib.Omega.{arith}
-use borrow.Author.Tests.{eq-eqb, eqb-true, ltb-true, leb-true, leb-false}
-use lib.Dec.{leb, ltb}
-use lib.ListN.{length, take, getD, set, length-append}
-use Rattle.le.proofs.TestLaws.{and-left, and-right, Tested, passes, fails, tested}
+use borrow.Author.Tests.{eq-eqb, leb-true, leb-false}
+use lib.Dec.{leb}
+use lib.ListN.{length, getD, set, length-append}
+use Rattle.le.proofs.TestLaws.{Tested, passes, fails, tested}
 use Rattle.manifest.specs.Saying.{mayRead}
 use Rattle.record.proofs.GoodLaws.{good-long}
 use Rattle.card.specs.Pick.{All}
@@ -25,30 +25,31 @@ use Rattle.weave.specs.Sums.{added}
 use Rattle.weave.specs.Moves.{cursorOf, openedWith}
 use Rattle.weave.specs.States.{paid, tabled}
 use Rattle.weave.specs.Args.{openArgs, nextArgs}
-use Rattle.weave.specs.Checks.{slotFine, budgetCheck}
 use Rattle.weave.specs.Table.{freeSlot, hasHandle, placeOf, slotOf}
-use Rattle.weave.proofs.CodeLaws.{first-left, first-right}
-use Rattle.weave.proofs.SumLaws.{added-sum}
 use Rattle.takes.specs.Opening.{opening}
-use Rattle.takes.specs.Pages.{pageBytes, pageCode, pageCharge}
-use Rattle.host.specs.Hosts.{withWeave, gateCheck, settle}
+use Rattle.takes.specs.Pages.{pageBytes, pageCode}
+use Rattle.host.specs.Hosts.{withWeave, settle}
 use Rattle.host.specs.Cursors.{openCheck, openNext, openAnswer}
-use Rattle.host.specs.Paging.{nextSound, nextList, nextPage, nextCheck, nextAnswer}
+use Rattle.host.specs.Paging.{nextList, nextCheck, nextAnswer}
 use Rattle.host.proofs.PagingLaws.{next-sound}
-use Rattle.promises.specs.Box.{World, Op, Begin, Ingress, Write, Read, Open, Next, Close, Return, LookUp, Answered, step, isRefused, run}
+use Rattle.promises.specs.Box.{World, cardRecords, Op, Open, Next, Answered, step, isRefused, run}
+use Rattle.promises.specs.Accepted.{OpenMay, NextMay}
 use Rattle.promises.specs.Diary.{answerOf}
 use Rattle.promises.specs.Turn.{InTurn, givenBy, handedOver, listLeft, FirstPart, TidyIn, isNextOn, Nexts}
-use Rattle.promises.proofs.AcceptedLaws.{gate-running, settle-ok, open-slot, next-handle}
+use Rattle.promises.proofs.AcceptedLaws.{settle-ok}
+use Rattle.promises.proofs.AcceptedHolds.{open-exactly, next-exactly, next-page}
+use Rattle.promises.proofs.MovesHold.{next-on}
+use Rattle.promises.proofs.TidyHolds.{slot-free, handle-new, handle-there}
 use Rattle.promises.proofs.SlotLaws.{place-none, place-new, got-stored, length-stored}
 use Rattle.promises.proofs.TurnLaws.{own-handle, tidy-opened, Left, listing, shut, append-nil}
-use Rattle.promises.proofs.TurnHolds.{FollowedIn, handle-there, follow-step, follow-run}
+use Rattle.promises.proofs.TurnHolds.{FollowedIn, follow-step, follow-run}
 
 -- ---- a page is never empty but at the end
 
 abbrev pub Long : List ℕ → Type 0
 Long r = 136 ≤ length r
 
-all-at : (P : List ℕ → Type 0) (rs : List (List ℕ)) → ((k : ℕ) → k < length rs → P (getD rs k [])) → All P rs
+pub all-at : (P : List ℕ → Type 0) (rs : List (List ℕ)) → ((k : ℕ) → k < length rs → P (getD rs k [])) → All P rs
 all-at P [] f = tt
 all-at P (r ∷ rs) f = (f 0 (omega arith), all-at P rs (λ k h. f (suc k) (omega arith)))
 
@@ -57,7 +58,7 @@ records-long s id = all-at Long (records s id) (λ k h. good-long (getD (records
 
 pub left-long : (w : World) (k : ℕ) → All Long (listLeft w k)
 unfolding nextList
-left-long w k = listed-has Long (mayRead (w .lent .text) (w .host .weave .turn)) (cursorOf (w .host .weave) k) _ (records-long (take (w .host .used) (w .lent .card)) 1)
+left-long w k = listed-has Long (mayRead (w .lent .text) (w .host .weave .turn)) (cursorOf (w .host .weave) k) (cardRecords w) (records-long _ 1)
 
 size-some : (cap : ℕ) (r : List ℕ) (t : List (List ℕ)) → leb (length r) cap ≡ true → length r ≤ size (fit cap (r ∷ t))
 unfolding fit
@@ -69,7 +70,7 @@ fit-some cap r t e = rw e (omega arith)
 
 -- what an accepted page of the list rs answers
 module _ (cap : ℕ) where
-  page-zero : (rs : List (List ℕ)) → All Long rs → isFine (pageCode (pageOf cap rs)) ≡ true → pageBytes (pageOf cap rs) ≡ 0 → rs ≡ []
+  pub page-zero : (rs : List (List ℕ)) → All Long rs → isFine (pageCode (pageOf cap rs)) ≡ true → pageBytes (pageOf cap rs) ≡ 0 → rs ≡ []
   unfolding pageOf
   page-zero [] a c z = refl
   page-zero (r ∷ t) a c z = go (tested (leb (length r) cap)) c z
@@ -87,7 +88,7 @@ module _ (cap : ℕ) where
       go (passes e) c = fit-some cap r t e
       go (fails e) c = absurd (true≢false (sym (rw e at c)))
 
-  zero-page : (rs : List (List ℕ)) → rs ≡ [] → pageBytes (pageOf cap rs) ≡ 0
+  pub zero-page : (rs : List (List ℕ)) → rs ≡ [] → pageBytes (pageOf cap rs) ≡ 0
   unfolding pageOf
   zero-page rs e = rw e
 
@@ -98,23 +99,12 @@ nothing (r ∷ rs) e = absurd (omega arith)
 -- ---- a next that isn't refused
 
 module _ (w : World) (m : List ℕ) (at : ℕ) (e : isRefused (step w (Next m at) .said) ≡ false) where
-  fine : isFine (nextCheck (w .lent) (w .host) m at) ≡ true
-  unfolding step nextAnswer
-  fine = settle-ok (w .host) (nextCheck (w .lent) (w .host) m at) _ _ e
-
-  page-is : nextPage (w .lent) (w .host) m at ≡ pageOf (nextArgs m at .out .len) (listLeft w (nextArgs m at .handle))
-  unfolding nextPage
-  page-is = rw (next-sound (w .lent) (w .host) m at fine)
-
-  page-fine : isFine (pageCode (pageOf (nextArgs m at .out .len) (listLeft w (nextArgs m at .handle)))) ≡ true
-  unfolding nextCheck
-  page-fine =
-      rw (← page-is)
-      (first-left (pageCode (nextPage (w .lent) (w .host) m at)) (budgetCheck (w .host .weave) (pageCharge (nextPage (w .lent) (w .host) m at))) (first-right (nextSound (w .lent) (w .host) m at) _ fine))
+  may : NextMay (w .lent) (w .host) m at
+  may = next-exactly w m at .0 e
 
   answer-is : answerOf (step w (Next m at) .said) ≡ pageBytes (pageOf (nextArgs m at .out .len) (listLeft w (nextArgs m at .handle)))
   unfolding step nextAnswer settle
-  answer-is = rw (fine, page-is)
+  answer-is = let c = settle-ok (w .host) (nextCheck (w .lent) (w .host) m at) _ _ e in rw (c, next-page w m at (next-sound (w .lent) (w .host) m at c))
 
   module _ (k : ℕ) (is : nextArgs m at .handle ≡ k) (whole out : List (List ℕ)) (f : FollowedIn w k whole out) where
     left-is : out ++ listLeft w k ≡ whole
@@ -122,7 +112,7 @@ module _ (w : World) (m : List ℕ) (at : ℕ) (e : isRefused (step w (Next m at
     left-is = go (f .left)
       where
         p : placeOf (hasHandle k) (w .host .weave .slots) < length (w .host .weave .slots)
-        p = rw is at (handle-there w k whole out f (nextArgs m at .handle) (next-handle (w .lent) (w .host) m at fine))
+        p = rw is at (handle-there (w .host .weave) (f .tidy) (nextArgs m at .handle) (may .handle))
 
         go : Left (w .lent .text) (w .host .weave .turn) (w .host .used) (w .lent .card) (w .host .weave .slots) k whole out → out ++ listLeft w k ≡ whole
         go (listing p′ q) = q
@@ -137,7 +127,7 @@ module _ (w : World) (m : List ℕ) (at : ℕ) (e : isRefused (step w (Next m at
     -- it answers 0 exactly when the whole list was out before it
     pub zero-exactly : (answerOf (step w (Next m at) .said) ≡ 0) ↔ (out ≡ whole)
     zero-exactly = (
-      λ z. ended (page-zero (nextArgs m at .out .len) (listLeft w k) (left-long w k) (rw is at page-fine) (rw is at (sym answer-is ∙ z))),
+      λ z. ended (page-zero (nextArgs m at .out .len) (listLeft w k) (left-long w k) (rw is at (may .room)) (rw is at (sym answer-is ∙ z))),
       λ q. answer-is ∙ rw is (zero-page (nextArgs m at .out .len) (listLeft w k) (over q)),
     )
 
@@ -145,7 +135,7 @@ module _ (w : World) (m : List ℕ) (at : ℕ) (e : isRefused (step w (Next m at
     pub some-given : (out ≡ whole → ⊥) → 1 ≤ length (givenBy k w (Next m at))
     some-given n =
         rw (e, eq-eqb (nextArgs m at .handle) k is, is)
-        (page-some (nextArgs m at .out .len) (listLeft w k) (rw is at page-fine) (λ z. n (ended z)))
+        (page-some (nextArgs m at .out .len) (listLeft w k) (rw is at (may .room)) (λ z. n (ended z)))
 
 -- ---- from an open on
 
@@ -160,24 +150,18 @@ module _ (w : World) (t : TidyIn w) (m : List ℕ) (at k : ℕ) (o : step w (Ope
   abbrev place : ℕ
   place = placeOf (hasHandle 0) slots′
 
+  may-open : OpenMay (w .lent) (w .host) m at
+  may-open = open-exactly w m at .0 (ap isRefused o)
+
   opened-fine : isFine (openCheck (w .lent) (w .host) m at) ≡ true
   unfolding step openAnswer
   opened-fine = settle-ok (w .host) (openCheck (w .lent) (w .host) m at) _ _ (ap isRefused o)
 
   place-low : place < length slots′
-  unfolding slotFine
-  place-low = rw (t .four) (ltb-true place 4 (and-left (ltb place 4) _ (open-slot (w .lent) (w .host) m at opened-fine)))
-
-  few : w .host .weave .opened < 65535
-  unfolding slotFine
-  few = ltb-true (w .host .weave .opened) 65535 (and-right (ltb place 4) _ (open-slot (w .lent) (w .host) m at opened-fine))
-
-  runs : w .host .weave .running ≡ true
-  unfolding openCheck
-  runs = gate-running (w .lent) (w .host) (length m) (first-left (gateCheck (w .lent) (w .host) (length m)) _ opened-fine)
+  place-low = rw (t .four) (slot-free (w .host .weave) (may-open .room))
 
   handle-sum : added (w .host .weave .opened) 1 65535 ≡ w .host .weave .opened + 1
-  handle-sum = added-sum (w .host .weave .opened) 1 65535 (omega (arith, few))
+  handle-sum = handle-new (w .host .weave) (may-open .room)
 
   -- "handle numbers 1, 2, 3 .. within the weave"
   pub handle-next : k ≡ w .host .weave .opened + 1
@@ -208,7 +192,7 @@ module _ (w : World) (t : TidyIn w) (m : List ℕ) (at k : ℕ) (o : step w (Ope
   open-follows =
       rw (opened-fine, handle-sum, handle-next)
       (record {
-        runs = runs;
+        runs = may-open .gated .running;
         tidy = tidy-opened slots′ (w .host .weave .opened) t place new new-handle;
         least = omega arith;
         most = omega arith;
@@ -217,11 +201,11 @@ module _ (w : World) (t : TidyIn w) (m : List ℕ) (at k : ℕ) (o : step w (Ope
 
   -- what it lists: every committed event that filter, window and grants allow, cut to the limit
   pub open-lists : listLeft (step w (Open m at) .world) k
-      ≡ listOf (mayRead (w .lent .text) (w .host .weave .turn)) (opening m (openArgs m at) k .cursor) (records (take (w .host .used) (w .lent .card)) 1)
+      ≡ listOf (mayRead (w .lent .text) (w .host .weave .turn)) (opening m (openArgs m at) k .cursor) (cardRecords w)
   unfolding step openAnswer settle openNext openedWith withWeave paid tabled nextList cursorOf slotOf
   open-lists =
       rw (opened-fine, handle-sum, handle-next)
-      (ap (λ (c : Cursor). listOf (mayRead (w .lent .text) (w .host .weave .turn)) c (records (take (w .host .used) (w .lent .card)) 1)) new-cursor)
+      (ap (λ (c : Cursor). listOf (mayRead (w .lent .text) (w .host .weave .turn)) c (cardRecords w)) new-cursor)
 
   module _ (os : List Op) (i : All InTurn os) where
     abbrev w₁ : World
@@ -242,27 +226,13 @@ module _ (w : World) (t : TidyIn w) (m : List ℕ) (at k : ℕ) (o : step w (Ope
 -- ---- nothing of this holds because nothing happens: as many accepted nexts as there are events bring the whole list out
 
 next-in-turn : (k : ℕ) (o : Op) → isNextOn k o ≡ true → InTurn o
-next-in-turn k (Begin args) e = tt
-next-in-turn k (Ingress topic payload) e = tt
-next-in-turn k (Write m a) e = tt
-next-in-turn k (Read m a) e = tt
-next-in-turn k (Open m a) e = tt
-next-in-turn k (Next m a) e = tt
-next-in-turn k (Close m a) e = tt
-next-in-turn k (Return code) e = absurd (true≢false (sym e))
-next-in-turn k (LookUp id) e = tt
+next-in-turn k o e = rw (next-on k o e .is) tt
 
 next-gives : (w : World) (k : ℕ) (whole out : List (List ℕ)) → FollowedIn w k whole out → (o : Op) → isNextOn k o ≡ true → isRefused (step w o .said) ≡ false
     → (out ≡ whole → ⊥) → 1 ≤ length (givenBy k w o)
-next-gives w k whole out f (Begin args) i e n = absurd (true≢false (sym i))
-next-gives w k whole out f (Ingress topic payload) i e n = absurd (true≢false (sym i))
-next-gives w k whole out f (Write m a) i e n = absurd (true≢false (sym i))
-next-gives w k whole out f (Read m a) i e n = absurd (true≢false (sym i))
-next-gives w k whole out f (Open m a) i e n = absurd (true≢false (sym i))
-next-gives w k whole out f (Next m a) i e n = some-given w m a e k (eqb-true (nextArgs m a .handle) k i) whole out f n
-next-gives w k whole out f (Close m a) i e n = absurd (true≢false (sym i))
-next-gives w k whole out f (Return code) i e n = absurd (true≢false (sym i))
-next-gives w k whole out f (LookUp id) i e n = absurd (true≢false (sym i))
+next-gives w k whole out f o i e n =
+    let on = next-on k o i in
+    rw (on .is) (some-given w (on .memory) (on .at) (rw (on .is) at e) k (on .handle) whole out f n)
 
 -- a first part that is as long is the whole
 all-out : (whole out rest : List (List ℕ)) → out ++ rest ≡ whole → length whole ≤ length out → out ≡ whole

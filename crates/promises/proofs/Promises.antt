@@ -1,19 +1,19 @@
 -- THE PROMISES, each in one place and in the user's order. What they speak of is in specs/: Box, Refusal, Outcome, Diary, ReadBack, Turn. That they are about
 -- the code is ContractsHold.antt; that they do not hold because nothing happens is the last part.
 -- Assumes nothing.
-use mathlib.Core.Path.{_≡_, ap}
+use mathlib.Core.Path.{_≡_, refl, ap}
 use mathlib.Core.Bool.{Bool, true, false}
 use mathlib.Core.List.{List, [], _∷_, map, List·Memᴰ}
 use mathlib.Core.Logic.{_↔_}
-use Prim.Native.Nat.{ℕ, _+_, _^_, _≤_, _<_}
+use Prim.Native.Nat.{ℕ, _+_, _≤_, _<_}
 use lib.IntN.{ℤ, pos, negsuc}
-use lib.ListN.{length, take, getD}
+use lib.ListN.{length, getD}
 use Rattle.le.specs.Splice.{splice, zeros}
 use Rattle.le.specs.Le.{Bytes}
 use Rattle.manifest.specs.Saying.{mayRead}
 use Rattle.record.specs.Written.{Written}
 use Rattle.card.specs.Pick.{All, Sorted, only}
-use Rattle.card.specs.Records.{records}
+use Rattle.card.specs.Records.{records, size}
 use Rattle.card.specs.Listing.{fit, listed, turn, listOf, Before}
 use Rattle.card.specs.declared.Cursor.{Cursor}
 use Rattle.card.proofs.RecordsLaws.{records-rise}
@@ -24,40 +24,50 @@ use Rattle.weave.specs.Codes.{isFine, number}
 use Rattle.weave.specs.Args.{writeArgs, readArgs, openArgs, nextArgs}
 use Rattle.takes.specs.Opening.{opening}
 use Rattle.takes.specs.Payloads.{payloadBytes}
-use Rattle.host.specs.declared.Fate.the-variants.{Discarded, Committed}
-use Rattle.host.specs.Hosts.{Lent, lentAs, lentCheck}
+use Rattle.host.specs.declared.Fate.the-variants.{Discarded, Running, Committed}
+use Rattle.host.specs.Hosts.{Lent, lentAs, lengthsOf, withWeave, lentCheck}
 use Rattle.host.specs.Stage.{headerFor, isPanic, writtenTopic}
 use Rattle.host.specs.Mount.{mounted}
 use Rattle.host.specs.Paging.{nextPart, nextAnswer, nextCheck}
-use Rattle.host.specs.Reading.{readList, readAnswer, readCheck}
-use Rattle.promises.specs.Box.{World, Op, Begin, Ingress, Write, Read, Open, Next, Close, Return, LookUp, Answered, Ended, Part, step, isRefused, codeOf, saidNumber, memoryOf, mountedAs, run}
+use Rattle.host.specs.Reading.{readTopic, readList, readAnswer, readCheck}
+use Rattle.promises.specs.Box.{World, recordsOn, cardRecords, stagedRecords, LendsBytes, Op, Begin, Ingress, Write, Read, Open, Next, Close, Return, LookUp, Answered, Ended, Part, step, isRefused, codeOf, saidNumber, memoryOf, mountedAs, run}
 use Rattle.promises.specs.Refusal.{Unchanged, OnlyThere}
+use Rattle.promises.specs.Checks.{Passed, failing, checksOf, answers}
+use Rattle.promises.specs.Mounting.{mountChecks, StateOf, noLengths}
 use Rattle.promises.specs.Accepted.{BeginMay, IngressMay, WriteMay, ReadMay, OpenMay, NextMay, CloseMay}
-use Rattle.promises.specs.Outcome.{Conditions, SameCard, saysCommitted, NoneCommitted, Appended, butFaulted, PanicLeft, Begun, SameWeave}
+use Rattle.promises.specs.Outcome.{Conditions, InNumbers, Unhindered, moduleCount, Reason, nextTurn, returnsIn, RunsOn, SameCard, saysCommitted, NoneCommitted, Appended, butFaulted, PanicLeft, Begun, SameWeave}
 use Rattle.promises.specs.Diary.{Diary, answerOf, ingressRecord, writtenRecord, firstPage, diary, Agrees}
-use Rattle.promises.specs.ReadBack.{HasPage}
-use Rattle.promises.specs.Turn.{InTurn, handedOver, listLeft, FirstPart, Nexts, Allowed, AskedBy}
-use Rattle.promises.proofs.RefusalHolds.{refusal, next-there, read-there}
+use Rattle.promises.specs.ReadBack.{HasPage, ReadOf}
+use Rattle.promises.specs.Turn.{InTurn, handedOver, listLeft, FirstPart, Nexts, Allowed, ListedOf, AskedBy}
+use Rattle.promises.proofs.RefusalHolds.{next-there, read-there}
+use Rattle.promises.proofs.MovesHold.{moved}
 use Rattle.promises.proofs.AcceptedLaws.{settle-ok}
 use Rattle.promises.proofs.AcceptedHolds.{begin-exactly, ingress-exactly, write-exactly, read-exactly, open-exactly, next-exactly, close-exactly}
 use Rattle.promises.proofs.AskedHolds.{asked-by, panic-left, codes-are, refusal-number}
 use Rattle.promises.proofs.OutcomeHolds.{committed-exactly}
 use Rattle.promises.proofs.CardHolds.{only-commit, commit-appends, discard-restores}
-use Rattle.promises.proofs.DiaryHolds.{life-agrees}
+use Rattle.promises.proofs.DiaryHolds.{lends-memory, life-agrees}
 use Rattle.promises.proofs.ReadBackHolds.{write-reads-back, ingress-reads-back, kept-found, staged-found, page-stands, read-page-stands}
-use Rattle.promises.proofs.IdleHolds.{life-idle}
+use Rattle.promises.proofs.ReadHolds.{read-lists, read-zero}
 use Rattle.promises.proofs.LifeHolds.{life-sane}
-use Rattle.promises.proofs.WeaveHolds.{begin-sets, weave-stays}
+use Rattle.promises.proofs.WeaveHolds.{begin-sets, weave-stays, life-idle, life-timed}
+use Rattle.promises.proofs.ChecksHold.{code-is, accepted-exactly}
+use Rattle.promises.proofs.AnswersHold.{answers-are}
+use Rattle.promises.proofs.MountHolds.{mounts}
+use Rattle.promises.proofs.ReturnHolds.{in-numbers, discarded-exactly, running-exactly, turn-passes}
+use Rattle.promises.proofs.CountHolds.{turn-counted}
 use Rattle.promises.proofs.TidyHolds.{life-tidy}
 use Rattle.promises.proofs.PagesHold.{open-lists, first-part, end-exactly, drained}
-use Rattle.promises.proofs.ListHolds.{all-allowed, every-allowed, within-limit}
+use Rattle.promises.proofs.ListHolds.{all-allowed, every-allowed, within-limit, all-listed}
+use Rattle.promises.specs.TwoWeaves.{saidOver, twoModules, theCalls, theAnswers}
+use Rattle.promises.proofs.TwoRuns.{all-said}
 use Rattle.promises.proofs.CommitRuns.{oneModule, commits-one}
 
 -- ==== 1. "a refusal changes no lent byte and, but for the spoiled mark, no state"
 
 -- for every box and every call
 pub a-refusal-changes-nothing : (w : World) (o : Op) → isRefused (step w o .said) ≡ true → Unchanged w o (step w o)
-a-refusal-changes-nothing = refusal
+a-refusal-changes-nothing w o = moved w o .refused
 
 -- "Read and tl_next change no memory byte but those" that they answer
 pub next-changes-its-bytes-alone : (w : World) (m : List ℕ) (at : ℕ) → isRefused (step w (Next m at) .said) ≡ false
@@ -80,7 +90,35 @@ the-numbers = codes-are
 
 -- ==== 2. "Records, checks, grants, charges and outcomes are document 01's."
 
--- "No code is given in any other case": each call is accepted exactly when all holds that it asks
+-- "Order of checks": of every call, the code is that of the first check that fails, and Fine where none does; "No code is given in any other case"
+pub the-first-check-that-fails-gives-the-code : (w : World) (o : Op) → codeOf (step w o .said) ≡ failing (checksOf w o)
+the-first-check-that-fails-gives-the-code = code-is
+
+pub accepted-exactly-when-no-check-fails : (w : World) (o : Op) → (isRefused (step w o .said) ≡ false) ↔ All Passed (checksOf w o)
+accepted-exactly-when-no-check-fails = accepted-exactly
+
+-- an accepted begin, ingress, write and close answer 0, an open one more than have been opened, read and next the bytes of the page
+pub an-accepted-call-answers : (w : World) (o : Op) → isRefused (step w o .said) ≡ false → answerOf (step w o .said) ≡ answers w o
+an-accepted-call-answers = answers-are
+
+-- mount: its code likewise, "-3: with the offset of the first record not sound"; refused "its state all 0", else "a fresh state"; and no byte is changed
+module _ (l : Lent) (used : ℕ) where
+  pub mount-gives-the-code : mounted l used .code ≡ failing (mountChecks l used)
+  mount-gives-the-code = mounts l used .code
+
+  pub mount-gives-the-offset : mounted l used .code ≡ Unsound → mounted l used .at ≡ size (recordsOn (l .card) used)
+  mount-gives-the-offset = mounts l used .offset
+
+  pub a-refused-mount-is-all-0 : isFine (mounted l used .code) ≡ false → StateOf (mounted l used .host) noLengths 0 0
+  a-refused-mount-is-all-0 = mounts l used .zero
+
+  pub a-mount-is-fresh : mounted l used .code ≡ Fine → StateOf (mounted l used .host) (lengthsOf l) used (1 + length (recordsOn (l .card) used))
+  a-mount-is-fresh = mounts l used .fresh
+
+  pub a-mount-changes-no-byte : mountedAs l used .lent ≡ l
+  a-mount-changes-no-byte = refl
+
+-- in words of its own: each call is accepted exactly when all holds that it asks
 pub begin-is-accepted-exactly-when : (w : World) (args : List ℕ) → (isRefused (step w (Begin args) .said) ≡ false) ↔ BeginMay (w .lent) (w .host) args
 begin-is-accepted-exactly-when = begin-exactly
 
@@ -112,6 +150,29 @@ pub committed-exactly-when : (w : World) (code : ℤ) (events bytes : ℕ)
     → (step w (Return code) .said ≡ Ended (Committed events bytes))
     ↔ (Conditions (w .lent) (w .host) code × ((events ≡ w .host .weave .count) × (bytes ≡ w .host .weave .staged)))
 committed-exactly-when = committed-exactly
+
+-- "discard with its reason": exactly when 01 has that reason for it
+pub discarded-exactly-when : (w : World) (code : ℤ) (c : Code) → (step w (Return code) .said ≡ Ended (Discarded c)) ↔ Reason w code c
+discarded-exactly-when = discarded-exactly
+
+-- "Otherwise the next module has its turn", and nothing else of the box has changed but that its cursors are closed
+pub running-exactly-when : (w : World) (code : ℤ) → (step w (Return code) .said ≡ Ended Running) ↔ (Unhindered w code × (w .host .weave .turn < moduleCount w))
+running-exactly-when = running-exactly
+
+pub the-next-module-has-its-turn : (w : World) (code : ℤ) → step w (Return code) .said ≡ Ended Running
+    → step w (Return code) .world ≡ record { host = withWeave (w .host) (nextTurn (w .host .weave)); lent = w .lent }
+the-next-module-has-its-turn = turn-passes
+
+-- "refused with document 01's number", "discard with its reason", "The outcome gives events and bytes": a return's answer in numbers
+pub a-return-in-numbers : (w : World) (code : ℤ) → InNumbers w code (step w (Return code) .said)
+a-return-in-numbers = in-numbers
+
+-- the turn is one more than the accepted returns since begin, and these are fewer than the modules while the weave runs: with the last of them at the latest it
+-- ends
+pub a-weave-ends-with-its-last-module : (w : World) (args : List ℕ) → isRefused (step w (Begin args) .said) ≡ false → (os : List Op) → RunsOn (step w (Begin args) .world) os
+    → (run (step w (Begin args) .world) os .host .weave .turn ≡ 1 + returnsIn (step w (Begin args) .world) os)
+    × (returnsIn (step w (Begin args) .world) os < moduleCount w)
+a-weave-ends-with-its-last-module = turn-counted
 
 -- then exactly the staged bytes were appended, and no other card byte changed
 pub committed-means-appended : (w : World) (code : ℤ) (events bytes : ℕ) → step w (Return code) .said ≡ Ended (Committed events bytes)
@@ -153,19 +214,23 @@ pub check-1-passes-over-a-life : (l : Lent) (used : ℕ) (os : List Op) → All 
     → isFine (lentCheck (run (mountedAs l used) os .lent) (run (mountedAs l used) os .host)) ≡ true
 check-1-passes-over-a-life = life-sane
 
--- "What is written reads back as the same topic and the payload as 01 stores it": what a write stages, and an ingress
-pub a-write-stages-its-record : (w : World) (m : List ℕ) (at : ℕ) → Bytes m → length (w .host .weave .trace) ≡ 32 → w .host .weave .time .0 < 256 ^ 8
-    → isRefused (step w (Write m at) .said) ≡ false → isPanic m at ≡ false
-    → (step w (Write m at) .world .lent .staging ≡ splice (w .lent .staging) (w .host .weave .staged) (writtenRecord w m at))
-    × Written (headerFor (w .host) (writeArgs m at .flags) (w .host .weave .turn)) (w .host .weave .trace) (writtenTopic m at) (payloadBytes m (writeArgs m at))
-    (writtenRecord w m at)
-a-write-stages-its-record = write-reads-back
+-- "What is written reads back as the same topic and the payload as 01 stores it": what an accepted write stages over a life, with the module whose turn it is as
+-- its agent; and an ingress. (What is lent holds bytes.)
+module _ (l : Lent) (used : ℕ) (os : List Op) (b : All LendsBytes os) (fine : mounted l used .code ≡ Fine) where
+  abbrev now-at : World
+  now-at = run (mountedAs l used) os
 
-pub an-ingress-stages-its-record : (w : World) (topic payload : List ℕ) → length (w .host .weave .trace) ≡ 32 → w .host .weave .time .0 < 256 ^ 8
-    → isRefused (step w (Ingress topic payload) .said) ≡ false
-    → (step w (Ingress topic payload) .world .lent .staging ≡ splice (w .lent .staging) (w .host .weave .staged) (ingressRecord w topic payload))
-    × Written (headerFor (w .host) 1 0) (w .host .weave .trace) topic payload (ingressRecord w topic payload)
-an-ingress-stages-its-record = ingress-reads-back
+  pub a-write-stages-its-record : (m : List ℕ) (at : ℕ) → Bytes m → isRefused (step now-at (Write m at) .said) ≡ false → isPanic m at ≡ false
+      → (step now-at (Write m at) .world .lent .staging ≡ splice (now-at .lent .staging) (now-at .host .weave .staged) (writtenRecord now-at m at))
+      × Written (headerFor (now-at .host) (writeArgs m at .flags) (now-at .host .weave .turn)) (now-at .host .weave .trace) (writtenTopic m at)
+      (payloadBytes m (writeArgs m at)) (writtenRecord now-at m at)
+  a-write-stages-its-record m at h = write-reads-back now-at m at h (life-agrees l used os (lends-memory os b) fine .traced) (life-timed l used os b)
+
+  pub an-ingress-stages-its-record : (topic payload : List ℕ) → isRefused (step now-at (Ingress topic payload) .said) ≡ false
+      → (step now-at (Ingress topic payload) .world .lent .staging ≡ splice (now-at .lent .staging) (now-at .host .weave .staged) (ingressRecord now-at topic payload))
+      × Written (headerFor (now-at .host) 1 0) (now-at .host .weave .trace) topic payload (ingressRecord now-at topic payload)
+  an-ingress-stages-its-record topic payload =
+      ingress-reads-back now-at topic payload (life-agrees l used os (lends-memory os b) fine .traced) (life-timed l used os b)
 
 -- after a commit look-up gives the record, by its number; before it, by the number that it will have
 module _ (l : Lent) (used : ℕ) (os : List Op) (b : All (λ (o : Op). Bytes (memoryOf o)) os) (fine : mounted l used .code ≡ Fine) where
@@ -190,6 +255,14 @@ pub a-read-page-stands-in-memory : (w : World) (m : List ℕ) (at : ℕ) → isR
     → HasPage (step w (Read m at) .memory) (readArgs m at .out .ptr) (fit (readArgs m at .out .len) (readList (w .lent) (w .host) m at))
 a-read-page-stands-in-memory = read-page-stands
 
+-- a read lists the "staged events with exactly that topic, .. id at least start, in order" and "answers the bytes written, 0 when none is left"
+pub a-read-lists : (w : World) (m : List ℕ) (at : ℕ) → ReadOf (readTopic m at) (readArgs m at .start .0) (stagedRecords w) (readList (w .lent) (w .host) m at)
+a-read-lists = read-lists
+
+pub a-read-answers-0-exactly-when-none-is-left : (w : World) (m : List ℕ) (at : ℕ) → isRefused (step w (Read m at) .said) ≡ false
+    → (answerOf (step w (Read m at) .said) ≡ 0) ↔ (readList (w .lent) (w .host) m at ≡ [])
+a-read-answers-0-exactly-when-none-is-left = read-zero
+
 -- ==== 3. "Paging is complete"
 
 -- The box is any that a mount and any calls lead to; an open answers the handle k; then come any calls of the same turn.
@@ -204,7 +277,7 @@ module _ (l : Lent) (used : ℕ) (before : List Op) (m : List ℕ) (at k : ℕ) 
   cursor′ = opening m (openArgs m at) k .cursor
 
   -- "one list (every committed event that filter, window and grants allow, .. cut to the limit)"
-  pub the-list : listLeft w₁ k ≡ listOf (mayRead (w .lent .text) (w .host .weave .turn)) cursor′ (records (take (w .host .used) (w .lent .card)) 1)
+  pub the-list : listLeft w₁ k ≡ listOf (mayRead (w .lent .text) (w .host .weave .turn)) cursor′ (cardRecords w)
   the-list = open-lists w (life-tidy l used before) m at k o
 
   -- .. and that filter, window, limit and direction are the ones of the open's bytes
@@ -224,6 +297,10 @@ module _ (l : Lent) (used : ℕ) (before : List Op) (m : List ℕ) (at k : ℕ) 
   -- and everything comes out: as many nexts that are not refused as there are events
   pub everything-comes-out : (os : List Op) → Nexts k w₁ os → length (listLeft w₁ k) ≤ length os → handedOver k w₁ os ≡ listLeft w₁ k
   everything-comes-out = drained w (life-tidy l used before) m at k o
+
+-- the list is the first `limit` of all the events that filter, window and grants allow: the limit cuts its tail, and none of those is left out
+pub the-limit-cuts-the-tail : (may : List ℕ → Bool) (c : Cursor) (card : List ℕ) → ListedOf may c (records card 1) (only (listed may c) (turn (c .desc) (records card 1)))
+the-limit-cuts-the-tail may c card = all-listed may c (records card 1) (records-rise card 1)
 
 -- of the list: "each once, in order": the numbers strictly rise, or downward strictly fall
 pub each-once-in-order : (may : List ℕ → Bool) (c : Cursor) (card : List ℕ) → Sorted (Before (c .desc)) (listOf may c (records card 1))
@@ -249,3 +326,8 @@ pub a-run-commits : (n c : ℕ) → 65536 ≤ n → n ≤ 1048576 → 136 ≤ c 
     → step (run (mountedAs (lentAs (zeros n) (zeros c) oneModule) 0) (Begin (zeros 128) ∷ Ingress (116 ∷ []) [] ∷ [])) (Return (pos 0)) .said
     ≡ Ended (Committed 1 136)
 a-run-commits = commits-one
+
+-- and the run of two modules: each call is accepted, with its answer (promises/TwoWeaves: what is lent, what is asked, what is said)
+pub a-run-of-two-modules : (n c : ℕ) → 65536 ≤ n → n ≤ 1048576 → 136 ≤ c → c ≤ 16777216
+    → saidOver (mountedAs (lentAs (zeros n) (zeros c) twoModules) 0) theCalls ≡ theAnswers
+a-run-of-two-modules = all-said

@@ -3,7 +3,7 @@
 use mathlib.Core.Path.{_≡_, ap, _∙_}
 use mathlib.Core.Bool.{Bool, true, false, cond}
 use mathlib.Core.List.{List, [], _∷_}
-use Prim.Native.Nat.{ℕ, suc, _+_, _-_, _^_, _<_}
+use Prim.Native.Nat.{ℕ, _+_, _-_, _^_, _<_}
 use native.Mathlib.Omega.{arith}
 use borrow.Author.Tests.{lt-ltb, le-ltb}
 use lib.Dec.{leb}
@@ -14,10 +14,11 @@ use Rattle.manifest.specs.Saying.{mayRead}
 use Rattle.record.specs.Shown.{Framed}
 use Rattle.record.specs.Written.{Written}
 use Rattle.record.proofs.ShownLaws.{good-shown}
-use Rattle.card.specs.Pick.{All, only}
+use Rattle.card.specs.Pick.{All}
 use Rattle.card.specs.Records.{records}
 use Rattle.card.specs.Walk.{lookUp}
 use Rattle.card.specs.Listing.{fit}
+use Rattle.card.proofs.PickLaws.{all-only}
 use Rattle.card.proofs.RecordsLaws.{records-good}
 use Rattle.card.proofs.WalkLaws.{to-count, recordOf-is}
 use Rattle.card.proofs.ListingLaws.{listed-has}
@@ -38,7 +39,9 @@ use Rattle.promises.specs.Box.{World, Ingress, Write, Read, Next, LookUp
 use Rattle.promises.specs.Diary.{Diary, ingressRecord, writtenRecord, Agrees}
 use Rattle.promises.specs.ReadBack.{HasPage}
 use Rattle.promises.proofs.AcceptedLaws.{settle-ok}
+use Rattle.promises.proofs.AcceptedHolds.{ingress-exactly, write-exactly}
 use Rattle.promises.proofs.StagedLaws.{ingress-back, write-back}
+use Rattle.promises.proofs.PagesHold.{all-at}
 use Rattle.promises.proofs.ShownLaws.{has-page}
 
 -- ---- the record that was staged
@@ -52,7 +55,7 @@ pub write-reads-back : (w : World) (m : List ℕ) (at : ℕ) → Bytes m → len
 unfolding step writeAnswer writeStaging writtenRecord
 write-reads-back w m at b l t e p =
     let c = settle-ok (w .host) (writeCheck (w .lent) (w .host) m at) _ _ e in
-    (rw (c, p), write-back (w .lent) (w .host) m at l b c p t)
+    (rw (c, p), write-back (w .lent) (w .host) m at l b (write-exactly w m at .0 e) p t)
 
 -- an accepted ingress likewise
 pub ingress-reads-back : (w : World) (topic payload : List ℕ) → length (w .host .weave .trace) ≡ 32 → w .host .weave .time .0 < 256 ^ 8
@@ -62,7 +65,7 @@ pub ingress-reads-back : (w : World) (topic payload : List ℕ) → length (w .h
 unfolding step ingressAnswer ingressStaging ingressRecord
 ingress-reads-back w topic payload l t e =
     let c = settle-ok (w .host) (ingressCheck (w .lent) (w .host) topic payload) _ _ e in
-    (rw c, ingress-back (w .lent) (w .host) topic payload l c t)
+    (rw c, ingress-back (w .lent) (w .host) topic payload l (ingress-exactly w topic payload .0 e) t)
 
 -- ---- look-up
 
@@ -89,10 +92,6 @@ module _ (w : World) (d : Diary) (a : Agrees w d) (sane : isFine (lentCheck (w .
       minus n i = omega arith
 
 -- ---- next
-
-all-at : (P : List ℕ → Type 0) (rs : List (List ℕ)) → ((k : ℕ) → k < length rs → P (getD rs k [])) → All P rs
-all-at P [] f = tt
-all-at P (r ∷ rs) f = (f 0 (omega arith), all-at P rs (λ k h. f (suc k) (omega arith)))
 
 all-fit : (P : List ℕ → Type 0) (cap : ℕ) (rs : List (List ℕ)) → All P rs → All P (fit cap rs)
 unfolding fit
@@ -121,15 +120,6 @@ page-stands w m at e =
     (omega (arith, size-fit cap list, next-lies (w .lent) (w .host) m at c)))
 
 -- ---- read: the same of the staged events that it lists
-
-all-only : (P : List ℕ → Type 0) (p : List ℕ → Bool) (rs : List (List ℕ)) → All P rs → All P (only p rs)
-unfolding only
-all-only P p [] a = tt
-all-only P p (r ∷ rs) a = go (p r) (all-only P p rs (a .1))
-  where
-    go : (b : Bool) → All P (only p rs) → All P (cond b (r ∷ only p rs) (only p rs))
-    go true ih = (a .0, ih)
-    go false ih = ih
 
 pub read-page-stands : (w : World) (m : List ℕ) (at : ℕ) → isRefused (step w (Read m at) .said) ≡ false
     → HasPage (step w (Read m at) .memory) (readArgs m at .out .ptr) (fit (readArgs m at .out .len) (readList (w .lent) (w .host) m at))

@@ -57,27 +57,29 @@ module _ (a : ℕ) (r : List ℕ) (f : Framed r) where
         go (passes e) = ap (part k n) (shown-moved (a + P) P r e) ∙ part-before k n r (P + 8) (leBytes 8 (a + P + 32)) h
         go (fails e) = ap (part k n) (shown-plain (a + P) P r e)
 
+    -- its type, read in its payload
+    kind-same : leAt 4 (part P (dataLenOf r) r) 0 ≡ leAt 4 r P
+    kind-same = leAt-in-part 4 r P (dataLenOf r) 0 (omega (arith, f .value v)) ∙ ap (leAt 4 r) (add-zero P)
+
     -- its payload, as if it stood alone
     payload-moved : part P (dataLenOf r) S ≡ shownValue (a + P) (part P (dataLenOf r) r)
     payload-moved = go (tested (pointed (leAt 4 r P)))
       where
-        kind : leAt 4 (part P (dataLenOf r) r) 0 ≡ leAt 4 r P
-        kind = leAt-in-part 4 r P (dataLenOf r) 0 (omega (arith, f .value v)) ∙ ap (leAt 4 r) (add-zero P)
-
         go : Tested (pointed (leAt 4 r P)) → part P (dataLenOf r) S ≡ shownValue (a + P) (part P (dataLenOf r) r)
         go (passes e) =
             ap (part P (dataLenOf r)) (shown-moved (a + P) P r e)
             ∙ part-spliced P (dataLenOf r) r 8 (leBytes 8 (a + P + 32))
-            ∙ sym (shown-moved (a + P) 0 (part P (dataLenOf r) r) (ap pointed kind ∙ e))
+            ∙ sym (shown-moved (a + P) 0 (part P (dataLenOf r) r) (ap pointed kind-same ∙ e))
         go (fails e) =
-            ap (part P (dataLenOf r)) (shown-plain (a + P) P r e) ∙ sym (shown-plain (a + P) 0 (part P (dataLenOf r) r) (ap pointed kind ∙ e))
+            ap (part P (dataLenOf r)) (shown-plain (a + P) P r e) ∙ sym (shown-plain (a + P) 0 (part P (dataLenOf r) r) (ap pointed kind-same ∙ e))
 
   pub handed-as : HandedAs a r (shown a r)
-  unfolding shown topicOf payloadOf
+  unfolding shown shownAt topicOf payloadOf
   handed-as = go (isValue (flagsOf r)) refl
     where
       go : (v : Bool) → isValue (flagsOf r) ≡ v → HandedAs a r (cond v (shownAt (a + P) P r) r)
       go true v = record {
+        bytes = rw (v, kind-same v);
         long = length-shownAt (a + P) P r;
         id = number-same v 8 8 (omega arith);
         time = number-same v 8 16 (omega arith);
@@ -86,7 +88,7 @@ module _ (a : ℕ) (r : List ℕ) (f : Framed r) where
         topic = rw (number-same v 4 80 (omega arith)) (part-same v 128 (topicLenOf r) (omega (arith, behind-topic)));
         payload = rw (number-same v 4 80 (omega arith), number-same v 4 84 (omega arith), v) (payload-moved v);
       }
-      go false v = record { long = refl; id = refl; time = refl; flags = refl; agent = refl; topic = refl; payload = rw v }
+      go false v = record { bytes = rw v; long = refl; id = refl; time = refl; flags = refl; agent = refl; topic = refl; payload = rw v }
 
 -- ---- a page of them
 

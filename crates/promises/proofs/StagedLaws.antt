@@ -11,10 +11,12 @@ use lib.ListN.{length}
 use Rattle.le.specs.Splice.{part}
 use Rattle.le.specs.Le.{Bytes}
 use Rattle.le.proofs.TestLaws.{and-left, and-right, and-both}
+use Rattle.le.proofs.SpliceLaws.{length-part}
 use Rattle.text.specs.Topic.{cardTopic}
 use Rattle.text.specs.Span.{inside}
 use Rattle.text.specs.Flags.{goodFlags, isValue}
 use Rattle.text.specs.Sizes.{totalLen}
+use Rattle.text.proofs.SpanLaws.{inside-end}
 use Rattle.text.proofs.FlagLaws.{flags-most}
 use Rattle.value.specs.Forms.{payload}
 use Rattle.record.specs.Record.{recordBytes}
@@ -22,19 +24,16 @@ use Rattle.record.specs.Good.{goodKind, goodName, goodPayload, goodRecord}
 use Rattle.record.proofs.GoodLaws.{length-record, record-good}
 use Rattle.record.specs.Written.{Written}
 use Rattle.record.proofs.WrittenLaws.{raw-payload, value-payload, written as written-law}
-use Rattle.weave.specs.declared.Code.the-variants.{NoRoom, Bad}
-use Rattle.weave.specs.Codes.{isFine, need}
 use Rattle.weave.specs.Args.{writeArgs, topicFine}
-use Rattle.weave.specs.Checks.{budgetCheck}
-use Rattle.weave.proofs.CodeLaws.{fine-at, need-test, first-right}
 use Rattle.weave.proofs.SumLaws.{added-sum}
 use Rattle.takes.specs.Payloads.{payloadBytes}
 use Rattle.takes.proofs.PayloadLaws.{payload-long, value-fine}
 use Rattle.host.specs.declared.Host.{Host}
 use Rattle.host.specs.Hosts.{Lent}
-use Rattle.host.specs.Stage.{roomFine, headerFor, ingressChecks, ingressCheck, writtenTopic, dataLen, isPanic, writeCharge, stageCheck, writeChecks, writeCheck}
-use Rattle.host.proofs.StageLaws.{room-fits, room-counted, ingress-room, write-fit, write-sound, write-topic, write-room}
-use Rattle.promises.proofs.AcceptedLaws.{Lawful, turn-16, gate-lawful, gate-running, budget-paid}
+use Rattle.host.specs.Stage.{roomFine, headerFor, writtenTopic, dataLen, isPanic}
+use Rattle.host.proofs.StageLaws.{room-fits, room-counted}
+use Rattle.promises.specs.Accepted.{IngressMay, WriteMay}
+use Rattle.promises.proofs.AcceptedLaws.{Lawful, lawful, turn-16}
 
 -- a record r of n bytes that may be staged: it fits behind what is staged, it is good with the next number, and the counts go up by one and by n
 pub record Stageable (l : Lent) (h : Host) (r : List ℕ) (n : ℕ) : Type 0 where
@@ -83,46 +82,48 @@ ingress-kind : goodKind 1 0 ≡ true
 unfolding goodKind goodFlags
 ingress-kind = cc
 
-module _ (l : Lent) (h : Host) (topic take′ : List ℕ) (traced : length (h .weave .trace) ≡ 32) (fine : isFine (ingressCheck l h topic take′) ≡ true) where
+module _ (l : Lent) (h : Host) (topic take′ : List ℕ) (traced : length (h .weave .trace) ≡ 32) (may : IngressMay l h topic take′) where
   ingress-name : goodName 0 topic ≡ true
-  unfolding ingressChecks goodName
-  ingress-name = and-both (cardTopic topic) _ (need-test _ Bad refl (fine-at 2 (ingressChecks l h topic take′) fine)) refl
+  unfolding goodName
+  ingress-name = and-both (cardTopic topic) _ (may .topic-good) refl
 
   pub ingress-staged : Stageable l h (recordBytes (headerFor h 1 0) (h .weave .trace) topic take′) (totalLen (length topic) (length take′))
-  ingress-staged =
-      stageable l h 1 0 topic take′ traced (ingress-room l h topic take′ true (sym fine) refl) ingress-kind ingress-name (raw-payload 1 take′ cc)
+  ingress-staged = stageable l h 1 0 topic take′ traced (may .room) ingress-kind ingress-name (raw-payload 1 take′ cc)
 
   pub ingress-back : h .weave .time .0 < 256 ^ 8 → Written (headerFor h 1 0) (h .weave .trace) topic take′ (recordBytes (headerFor h 1 0) (h .weave .trace) topic take′)
-  ingress-back t =
-      stored-back l h 1 0 topic take′ traced (ingress-room l h topic take′ true (sym fine) refl) ingress-kind ingress-name (raw-payload 1 take′ cc) t
+  ingress-back t = stored-back l h 1 0 topic take′ traced (may .room) ingress-kind ingress-name (raw-payload 1 take′ cc) t
 
 -- ---- write, but for a panic
 
 not-zero : (n : ℕ) → 1 ≤ n → not (eqb n 0) ≡ true
 not-zero n h = rw (ne-eqb n 0 (λ e. omega arith))
 
-module _ (l : Lent) (h : Host) (m : List ℕ) (a : ℕ) (traced : length (h .weave .trace) ≡ 32) (bytes : Bytes m) (fine : isFine (writeCheck l h m a) ≡ true)
-    (calm : isPanic m a ≡ false) where
+module _ (l : Lent) (h : Host) (m : List ℕ) (a : ℕ) (traced : length (h .weave .trace) ≡ 32) (bytes : Bytes m) (may : WriteMay l h m a) (calm : isPanic m a ≡ false) where
   law : Lawful l h
-  unfolding writeChecks
-  law = gate-lawful l h (length m) (fine-at 0 (writeChecks l h m a) fine)
+  law = lawful l h (may .gated .check-1)
 
-  run : h .weave .running ≡ true
-  unfolding writeChecks
-  run = gate-running l h (length m) (fine-at 0 (writeChecks l h m a) fine)
+  least : 1 ≤ h .weave .turn
+  least = law .turn-least (may .gated .running)
 
   kind : goodKind (writeArgs m a .flags) (h .weave .turn) ≡ true
-  unfolding writeChecks goodKind
+  unfolding goodKind
   kind =
-      and-both (goodFlags (writeArgs m a .flags)) _ (need-test _ Bad refl (fine-at 3 (writeChecks l h m a) fine))
-      (and-both (leb (h .weave .turn) 16) _ (le-leb (h .weave .turn) 16 (turn-16 l h law run)) (rw (not-zero (h .weave .turn) (law .turn-least run))))
+      and-both (goodFlags (writeArgs m a .flags)) _ (may .flags)
+      (and-both (leb (h .weave .turn) 16) _ (le-leb (h .weave .turn) 16 (turn-16 l h law (may .gated .running))) (rw (not-zero (h .weave .turn) least)))
+
+  span : inside (writeArgs m a .topic .ptr) (writeArgs m a .topic .len) (length m) ≡ true
+  unfolding topicFine
+  span = and-left (inside (writeArgs m a .topic .ptr) (writeArgs m a .topic .len) (length m)) _ (may .topic)
+
+  topic-long : length (writtenTopic m a) ≡ writeArgs m a .topic .len
+  topic-long = length-part (writeArgs m a .topic .ptr) (writeArgs m a .topic .len) m (inside-end (writeArgs m a .topic .ptr) (writeArgs m a .topic .len) (length m) span)
 
   name : goodName (h .weave .turn) (writtenTopic m a) ≡ true
-  unfolding writeChecks goodName topicFine
+  unfolding goodName topicFine
   name =
       and-both (cardTopic (writtenTopic m a)) _
-      (and-right (inside (writeArgs m a .topic .ptr) (writeArgs m a .topic .len) (length m)) _ (need-test _ Bad refl (fine-at 2 (writeChecks l h m a) fine)))
-      (rw (ne-eqb (h .weave .turn) 0 (λ e. omega (arith, law .turn-least run)), calm))
+      (and-right (inside (writeArgs m a .topic .ptr) (writeArgs m a .topic .len) (length m)) _ (may .topic))
+      (rw (ne-eqb (h .weave .turn) 0 (λ e. omega (arith, least)), calm))
 
   stored : goodPayload (writeArgs m a .flags) (payloadBytes m (writeArgs m a)) ≡ true
   unfolding payloadBytes
@@ -130,21 +131,20 @@ module _ (l : Lent) (h : Host) (m : List ℕ) (a : ℕ) (traced : length (h .wea
     where
       go : (v : Bool) → isValue (writeArgs m a .flags) ≡ v
           → goodPayload (writeArgs m a .flags) (cond v (payload m (writeArgs m a .place)) (part (writeArgs m a .place) (writeArgs m a .len) m)) ≡ true
-      go true e =
-          value-payload (writeArgs m a .flags) m (writeArgs m a .place) bytes (value-fine m (writeArgs m a) (write-sound l h m a fine) e)
+      go true e = value-payload (writeArgs m a .flags) m (writeArgs m a .place) bytes (value-fine m (writeArgs m a) (may .value) e)
       go false e = raw-payload (writeArgs m a .flags) (part (writeArgs m a .place) (writeArgs m a .len) m) e
 
   data-is : dataLen m a ≡ length (payloadBytes m (writeArgs m a))
-  data-is = payload-long m (writeArgs m a) (write-fit l h m a fine)
+  data-is = payload-long m (writeArgs m a) (may .payload)
 
   room : roomFine h (length (writtenTopic m a)) (length (payloadBytes m (writeArgs m a))) (length (l .staging)) ≡ true
-  room = rw (write-topic l h m a fine, ← data-is) (write-room l h m a fine calm)
+  room = rw (topic-long, ← data-is) (may .room calm)
 
   pub write-staged : Stageable l h (recordBytes (headerFor h (writeArgs m a .flags) (h .weave .turn)) (h .weave .trace) (writtenTopic m a) (payloadBytes m (writeArgs m a)))
       (totalLen (writeArgs m a .topic .len) (dataLen m a))
   write-staged =
       subst (λ (n : ℕ). Stageable l h (recordBytes (headerFor h (writeArgs m a .flags) (h .weave .turn)) (h .weave .trace) (writtenTopic m a) (payloadBytes m (writeArgs m a))) n)
-      (ap (λ (t : ℕ). totalLen t (length (payloadBytes m (writeArgs m a)))) (write-topic l h m a fine) ∙ ap (totalLen (writeArgs m a .topic .len)) (sym data-is))
+      (ap (λ (t : ℕ). totalLen t (length (payloadBytes m (writeArgs m a)))) topic-long ∙ ap (totalLen (writeArgs m a .topic .len)) (sym data-is))
       (stageable l h (writeArgs m a .flags) (h .weave .turn) (writtenTopic m a) (payloadBytes m (writeArgs m a)) traced room kind name stored)
 
   pub write-back : h .weave .time .0 < 256 ^ 8
@@ -152,9 +152,3 @@ module _ (l : Lent) (h : Host) (m : List ℕ) (a : ℕ) (traced : length (h .wea
       (recordBytes (headerFor h (writeArgs m a .flags) (h .weave .turn)) (h .weave .trace) (writtenTopic m a) (payloadBytes m (writeArgs m a)))
   write-back t =
       stored-back l h (writeArgs m a .flags) (h .weave .turn) (writtenTopic m a) (payloadBytes m (writeArgs m a)) traced room kind name stored t
-
-  pub write-budget : h .weave .units + writeCharge (writeArgs m a .topic .len) (dataLen m a) ≤ h .weave .resmax
-  unfolding writeChecks stageCheck
-  write-budget =
-      budget-paid (h .weave) _
-      (first-right (need _ NoRoom) (budgetCheck (h .weave) (writeCharge (writeArgs m a .topic .len) (dataLen m a))) (rw calm at (fine-at 7 (writeChecks l h m a) fine)))

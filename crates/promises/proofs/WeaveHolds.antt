@@ -1,38 +1,32 @@
--- What begin sets, and that it stays while the weave runs.
+-- What begin sets, that it stays while the weave runs, and that a box without one keeps nothing of it.
 -- Assumes nothing.
 use mathlib.Core.Path.{_≡_, refl, sym, _∙_}
-use mathlib.Core.Bool.{Bool, true, false, not, cond, true≢false}
-use mathlib.Core.List.{List}
-use Prim.Native.Nat.{ℕ}
+use mathlib.Core.Bool.{Bool, true, false, cond, true≢false}
+use mathlib.Core.List.{List, [], _∷_}
+use Prim.Native.Nat.{ℕ, _^_, _<_}
 use native.Mathlib.Omega.{arith}
-use borrow.Author.Tests.{eq-eqb, not-true}
+use borrow.Author.Tests.{eq-eqb}
+use lib.Dec.{eqb}
 use lib.ListN.{length, length-replicate}
+use Rattle.le.specs.Le.{Bytes, leAt}
+use Rattle.le.proofs.LeLaws.{leAt-lt}
+use Rattle.card.specs.Pick.{All}
 use Rattle.le.specs.Splice.{part, splice, zeros}
 use Rattle.le.proofs.SpliceLaws.{length-part, part-of-splice, length-splice, part-whole}
-use Rattle.weave.specs.declared.Code.{Code}
-use Rattle.weave.specs.declared.Code.the-variants.{Fine, NotNow}
-use Rattle.weave.specs.declared.Spoiled.the-variants.{Overspent}
 use Rattle.weave.specs.declared.Weave.{Weave}
-use Rattle.weave.specs.Codes.{isFine, isBudget, need}
 use Rattle.weave.specs.Moves.{openedWith, movedTo, closedAt}
 use Rattle.weave.specs.States.{freshWeave, begunWeave, paid, holding, tabled, spoilt, turned}
-use Rattle.weave.proofs.CodeLaws.{need-test, first-left, first-right}
 use Rattle.takes.specs.Begun.{argAt, traceOf, begun}
-use Rattle.host.specs.declared.Host.{Host}
-use Rattle.host.specs.declared.Answer.{Answer}
-use Rattle.host.specs.declared.Fate.{Fate}
-use Rattle.host.specs.declared.Fate.the-variants.{Refused, Discarded, Running, Committed}
-use Rattle.host.specs.Hosts.{withWeave, lentCheck, refused, settle}
+use Rattle.host.specs.Hosts.{Lent, withWeave, refused, settle}
 use Rattle.host.specs.Begin.{beginCheck, beginAnswer, beginStaging}
-use Rattle.host.specs.Stage.{ingressAnswer, isPanic, panicked, written, writeAnswer}
-use Rattle.host.specs.Reading.{readAnswer}
-use Rattle.host.specs.Cursors.{openNext, openAnswer, closeNext, closeAnswer}
-use Rattle.host.specs.Paging.{nextHost, nextAnswer}
-use Rattle.host.specs.Ending.{fateOf, committed, finished, returnAnswer}
-use Rattle.promises.specs.Box.{World, Op, Begin, Ingress, Write, Read, Open, Next, Close, Return, LookUp, step, isRefused}
+use Rattle.host.specs.Ending.{committed}
+use Rattle.promises.specs.Box.{World, Op, Begin, step, isRefused, argsOf, LendsBytes, mountedAs, run}
 use Rattle.promises.specs.Outcome.{Begun, SameWeave}
 use Rattle.promises.proofs.AcceptedLaws.{settle-ok}
 use Rattle.promises.proofs.AcceptedHolds.{begin-exactly}
+use Rattle.promises.proofs.MoveLaws.{Change, Marks, Stages, Writes, Pays, Opens, Hands, Closes, Panics, Turns, Move, Rests, Begins, GoesOn, Commits, Discards, weaveAfter, after}
+use Rattle.promises.proofs.MovesHold.{moved}
+use Rattle.promises.proofs.MountLaws.{mount-fresh}
 
 -- ---- begin
 
@@ -59,64 +53,77 @@ begin-sets w args e =
 
 -- ---- while it runs
 
--- of a state, what stays
-abbrev Stays : Weave → Weave → Type 0
-Stays v w = (v .resmax ≡ w .resmax) × ((v .time ≡ w .time) × (v .trace ≡ w .trace))
+-- of a weave, what stays
+pub record Keeps (is was : Weave) : Type 0 where
+  pub running : is .running ≡ was .running
+  pub resmax : is .resmax ≡ was .resmax
+  pub time : is .time ≡ was .time
+  pub trace : is .trace ≡ was .trace
 
-module _ (h : Host) (c : Code) (v : ℕ) (next′ : Host) where
-  settle-stays : Stays (next′ .weave) (h .weave) → Stays (settle h c v next′ .host .weave) (h .weave)
-  unfolding settle refused withWeave spoilt
-  settle-stays s = go (isFine c) (isBudget c)
-    where
-      go : (t b : Bool) → Stays ((cond {A = Answer} t (record { code = Fine; value = v; host = next′ }) (record { code = c; value = 0; host = cond b (withWeave h (spoilt (h .weave) Overspent)) h })) .host .weave) (h .weave)
-      go true b = s
-      go false true = (refl, (refl, refl))
-      go false false = (refl, (refl, refl))
+pub keeps : (w : World) (o : Op) (c : Change w o) → Keeps (weaveAfter w o c) (w .host .weave)
+unfolding spoilt holding paid tabled turned openedWith movedTo closedAt
+keeps w o Marks = record { running = refl; resmax = refl; time = refl; trace = refl }
+keeps w o (Stages r n g) = record { running = refl; resmax = refl; time = refl; trace = refl }
+keeps w o (Writes r n b g) = record { running = refl; resmax = refl; time = refl; trace = refl }
+keeps w o (Pays charge b) = record { running = refl; resmax = refl; time = refl; trace = refl }
+keeps w o (Opens s e f b) = record { running = refl; resmax = refl; time = refl; trace = refl }
+keeps w o (Hands k cap f b) = record { running = refl; resmax = refl; time = refl; trace = refl }
+keeps w o (Closes k f b) = record { running = refl; resmax = refl; time = refl; trace = refl }
+keeps w o Panics = record { running = refl; resmax = refl; time = refl; trace = refl }
+keeps w o (Turns i low) = record { running = refl; resmax = refl; time = refl; trace = refl }
 
-module _ (w : World) where
-  abbrev h : Host
-  h = w .host
+stays : (w : World) (o : Op) (m : Move w o) → w .host .weave .running ≡ true → after w o m .host .weave .running ≡ true → SameWeave w (after w o m)
+unfolding withWeave committed freshWeave
+stays w o Rests r q = record { resmax = refl; time = refl; trace = refl }
+stays w o (Begins args i b) r q = absurd (true≢false (sym r ∙ i))
+stays w o (GoesOn e c) r q = let k = keeps w o c in record { resmax = k .resmax; time = k .time; trace = k .trace }
+stays w o (Commits f s code c) r q = absurd (true≢false (sym q))
+stays w o (Discards f) r q = absurd (true≢false (sym q))
 
-  by : (is : World) → Stays (is .host .weave) (h .weave) → SameWeave w is
-  by is s = record { resmax = s .0; time = s .1 .0; trace = s .1 .1 }
+-- THE PROMISE: any call of a weave that runs on leaves its budget, its virtual time and its trace
+pub weave-stays : (w : World) (o : Op) → w .host .weave .running ≡ true → step w o .world .host .weave .running ≡ true → SameWeave w (step w o .world)
+weave-stays w o = rw (moved w o .world) (stays w o (moved w o .move))
 
-  written-stays : (p : Bool) (t d n : ℕ) → Stays (written h p t d n .weave) (h .weave)
-  unfolding written panicked withWeave holding paid spoilt
-  written-stays true t d n = (refl, (refl, refl))
-  written-stays false t d n = (refl, (refl, refl))
+-- ---- while none runs, nothing of one is kept
 
-  fate-stays : (f : Fate) → finished h f .weave .running ≡ true → Stays (finished h f .weave) (h .weave)
-  unfolding finished withWeave turned committed freshWeave
-  fate-stays (Refused c) r = (refl, (refl, refl))
-  fate-stays (Discarded c) r = absurd (true≢false (sym r))
-  fate-stays Running r = (refl, (refl, refl))
-  fate-stays (Committed events bytes) r = absurd (true≢false (sym r))
+abbrev Idle : World → Type 0
+Idle w = w .host .weave .running ≡ false → w .host .weave ≡ freshWeave
 
-  -- a begin in a weave is refused
-  begin-never : (args : List ℕ) → h .weave .running ≡ true → isFine (beginCheck (w .lent) h args) ≡ true → ⊥
-  unfolding beginCheck
-  begin-never args r e =
-      true≢false (sym r ∙ not-true (h .weave .running) (need-test (not (h .weave .running)) NotNow refl (first-left (need (not (h .weave .running)) NotNow) _ (first-right (lentCheck (w .lent) h) _ e))))
+idle-move : (w : World) (o : Op) (m : Move w o) → Idle w → Idle (after w o m)
+unfolding withWeave begun begunWeave committed
+idle-move w o Rests i = i
+idle-move w o (Begins args e b) i = λ q. absurd (true≢false q)
+idle-move w o (GoesOn r c) i = λ q. absurd (true≢false (sym r ∙ sym (keeps w o c .running) ∙ q))
+idle-move w o (Commits f s code c) i = λ q. refl
+idle-move w o (Discards f) i = λ q. refl
 
-  begin-stays : (args : List ℕ) → h .weave .running ≡ true → Stays (beginAnswer (w .lent) h args .host .weave) (h .weave)
-  unfolding beginAnswer settle refused withWeave spoilt
-  begin-stays args r = go (isFine (beginCheck (w .lent) h args)) (isBudget (beginCheck (w .lent) h args)) refl
-    where
-      go : (t b : Bool) → isFine (beginCheck (w .lent) h args) ≡ t
-          → Stays ((cond {A = Answer} t (record { code = Fine; value = 0; host = withWeave h (begun args) }) (record { code = beginCheck (w .lent) h args; value = 0; host = cond b (withWeave h (spoilt (h .weave) Overspent)) h })) .host .weave) (h .weave)
-      go true b e = absurd (begin-never args r e)
-      go false true e = (refl, (refl, refl))
-      go false false e = (refl, (refl, refl))
+idle-run : (os : List Op) (w : World) → Idle w → Idle (run w os)
+idle-run [] w i = i
+idle-run (o ∷ os) w i = idle-run os (step w o .world) (rw (moved w o .world) (idle-move w o (moved w o .move) i))
 
-  -- THE PROMISE: any call of a weave that runs on leaves its budget, its virtual time and its trace
-  pub weave-stays : (o : Op) → h .weave .running ≡ true → step w o .world .host .weave .running ≡ true → SameWeave w (step w o .world)
-  unfolding step beginAnswer ingressAnswer writeAnswer readAnswer openAnswer nextAnswer closeAnswer returnAnswer withWeave holding paid tabled openNext openedWith nextHost movedTo closeNext closedAt
-  weave-stays (Begin args) r q = by _ (begin-stays args r)
-  weave-stays (Ingress topic payload) r q = by _ (settle-stays h _ _ _ (refl, (refl, refl)))
-  weave-stays (Write m a) r q = by _ (settle-stays h _ _ _ (written-stays (isPanic m a) _ _ _))
-  weave-stays (Read m a) r q = by _ (settle-stays h _ _ _ (refl, (refl, refl)))
-  weave-stays (Open m a) r q = by _ (settle-stays h _ _ _ (refl, (refl, refl)))
-  weave-stays (Next m a) r q = by _ (settle-stays h _ _ _ (refl, (refl, refl)))
-  weave-stays (Close m a) r q = by _ (settle-stays h _ _ _ (refl, (refl, refl)))
-  weave-stays (Return code) r q = by _ (fate-stays (fateOf (w .lent) h code) q)
-  weave-stays (LookUp id) r q = record { resmax = refl; time = refl; trace = refl }
+-- THE PROMISE: while no weave is running the state has nothing of one
+pub life-idle : (l : Lent) (used : ℕ) (os : List Op) → run (mountedAs l used) os .host .weave .running ≡ false → run (mountedAs l used) os .host .weave ≡ freshWeave
+life-idle l used os = idle-run os (mountedAs l used) (λ q. mount-fresh l used)
+
+-- ---- its virtual time is a number of 64 bits
+
+timed : (w : World) (o : Op) → Bytes (argsOf o) → (m : Move w o) → w .host .weave .time .0 < 256 ^ 8 → after w o m .host .weave .time .0 < 256 ^ 8
+unfolding withWeave committed freshWeave begun begunWeave argAt
+timed w o b Rests t = t
+timed w o b (Begins args i f) t = go (eqb (length args) 128)
+  where
+    go : (k : Bool) → cond k (leAt 8 args 48) 0 < 256 ^ 8
+    go true = leAt-lt 8 args 48 (f b)
+    go false = omega arith
+timed w o b (GoesOn e c) t = rw (keeps w o c .time) t
+timed w o b (Commits f s code c) t = omega arith
+timed w o b (Discards f) t = omega arith
+
+timed-run : (os : List Op) (w : World) → All LendsBytes os → w .host .weave .time .0 < 256 ^ 8 → run w os .host .weave .time .0 < 256 ^ 8
+timed-run [] w b t = t
+timed-run (o ∷ os) w b t = timed-run os (step w o .world) (b .1) (rw (moved w o .world) (timed w o (b .0 .args) (moved w o .move) t))
+
+-- (What is lent holds bytes.)
+pub life-timed : (l : Lent) (used : ℕ) (os : List Op) → All LendsBytes os → run (mountedAs l used) os .host .weave .time .0 < 256 ^ 8
+unfolding freshWeave
+life-timed l used os b = timed-run os (mountedAs l used) b (rw (mount-fresh l used) (omega arith))

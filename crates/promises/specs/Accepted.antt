@@ -4,7 +4,7 @@ use mathlib.Core.Path.{_≡_}
 use mathlib.Core.Bool.{true, false}
 use mathlib.Core.List.{List}
 use Prim.Native.Nat.{ℕ, _+_, _^_, _≤_}
-use lib.ListN.{length, take}
+use lib.ListN.{length}
 use Rattle.text.specs.Topic.{goodTopic}
 use Rattle.text.specs.Flags.{goodFlags}
 use Rattle.value.specs.declared.Fault.the-variants.{Fine as NoFault}
@@ -23,6 +23,7 @@ use Rattle.host.specs.Hosts.{Lent, lentCheck}
 use Rattle.host.specs.Stage.{roomFine, isPanic, writtenTopic, dataLen, writeCharge}
 use Rattle.host.specs.Reading.{readTopic, readList}
 use Rattle.host.specs.Paging.{nextList}
+use Rattle.promises.specs.Box.{cardChained, stagedPart}
 
 pub record BeginMay (l : Lent) (h : Host) (args : List ℕ) : Type 0 where
   pub check-1 : isFine (lentCheck l h) ≡ true
@@ -68,7 +69,7 @@ pub record ReadMay (l : Lent) (h : Host) (m : List ℕ) (a : ℕ) : Type 0 where
   pub topic : topicFine m (readArgs m a .topic) ≡ true
   pub out : outFine m (readArgs m a .out) ≡ true
   pub granted : mayRead (l .text) (h .weave .turn) (readTopic m a) ≡ true
-  pub sound : chainTo (take (h .weave .staged) (l .staging)) (h .next .0) (added (h .next .0) (h .weave .count) (2 ^ 63)) ≡ true
+  pub sound : chainTo (stagedPart l h) (h .next .0) (added (h .next .0) (h .weave .count) (2 ^ 63)) ≡ true
   -- "out buffer shorter than the next record"
   pub room : isFine (pageCode (pageOf (readArgs m a .out .len) (readList l h m a))) ≡ true
   pub budget : h .weave .units + pageCharge (pageOf (readArgs m a .out .len) (readList l h m a)) ≤ h .weave .resmax
@@ -88,7 +89,7 @@ pub record NextMay (l : Lent) (h : Host) (m : List ℕ) (a : ℕ) : Type 0 where
   pub args : recordFine m a 24 ≡ true
   pub out : outFine m (nextArgs m a .out) ≡ true
   pub handle : handleFine (h .weave) (nextArgs m a .handle) ≡ true
-  pub sound : chainTo (take (h .used) (l .card)) 1 (h .next .0) ≡ true
+  pub sound : cardChained l h ≡ true
   pub room : isFine (pageCode (pageOf (nextArgs m a .out .len) (nextList l h (nextArgs m a .handle)))) ≡ true
   pub budget : h .weave .units + pageCharge (pageOf (nextArgs m a .out .len) (nextList l h (nextArgs m a .handle))) ≤ h .weave .resmax
 

@@ -5,7 +5,10 @@ use mathlib.Core.Bool.{Bool, true, false, not, cond}
 use mathlib.Core.List.{List, [], _∷_}
 use Prim.Native.Nat.{ℕ}
 use lib.IntN.{ℤ, pos}
-use lib.ListN.{length}
+use lib.ListN.{length, take}
+use Rattle.le.specs.Le.{Bytes}
+use Rattle.card.specs.Records.{records}
+use Rattle.card.specs.Walk.{chainTo}
 use Rattle.weave.specs.declared.Code.{Code}
 use Rattle.weave.specs.declared.Code.the-variants.{Fine}
 use Rattle.weave.specs.Codes.{isFine, number}
@@ -14,7 +17,7 @@ use Rattle.host.specs.declared.Answer.{Answer}
 use Rattle.host.specs.declared.Fate.{Fate}
 use Rattle.host.specs.declared.Fate.the-variants.{Refused, Discarded, Running, Committed}
 use Rattle.host.specs.Hosts.{Lent, lentAs}
-use Rattle.host.specs.Fates.{fateNumber}
+use Rattle.host.specs.Fates.{fateNumber, fateEvents, kept}
 use Rattle.host.specs.Begin.{beginAnswer, beginStaging}
 use Rattle.host.specs.Stage.{ingressAnswer, ingressStaging, writeAnswer, writeStaging}
 use Rattle.host.specs.Reading.{readAnswer, readMemory}
@@ -27,6 +30,24 @@ use Rattle.host.specs.Mount.{mounted, looked}
 pub record World : Type 0 where
   pub host : Host
   pub lent : Lent
+
+-- the records of a card of which so many bytes are used: "Ids start at 1"
+abbrev pub recordsOn : List ℕ → ℕ → List (List ℕ)
+recordsOn card used = records (take used card) 1
+
+abbrev pub cardRecords : World → List (List ℕ)
+cardRecords w = recordsOn (w .lent .card) (w .host .used)
+
+-- the used part is "a chain of sound records numbered from 1 up to the next number"
+abbrev pub cardChained : Lent → Host → Bool
+cardChained l h = chainTo (take (h .used) (l .card)) 1 (h .next .0)
+
+-- the staged part, and its records: "a staged event already has the id it will have if committed"
+abbrev pub stagedPart : Lent → Host → List ℕ
+stagedPart l h = take (h .weave .staged) (l .staging)
+
+abbrev pub stagedRecords : World → List (List ℕ)
+stagedRecords w = records (stagedPart (w .lent) (w .host)) (w .host .next .0)
 
 -- what can be asked. A module call carries the memory that it is lent ("memory is whatever the module makes of it") and its record's address
 pub data Op : Type 0 where
@@ -52,7 +73,7 @@ pub record Step : Type 0 where
   pub world : World
   pub memory : List ℕ
 
-abbrev answered : World → Answer → List ℕ → List ℕ → Step
+abbrev pub answered : World → Answer → List ℕ → List ℕ → Step
 answered w a staging′ memory′ =
     record {
       said = Answered (a .code) (a .value);
@@ -93,6 +114,23 @@ memoryOf (Close m a) = m
 memoryOf (Return code) = []
 memoryOf (LookUp id) = []
 
+-- the arguments that are lent to begin; none to the others
+abbrev pub argsOf : Op → List ℕ
+argsOf (Begin args) = args
+argsOf (Ingress topic payload) = []
+argsOf (Write m a) = []
+argsOf (Read m a) = []
+argsOf (Open m a) = []
+argsOf (Next m a) = []
+argsOf (Close m a) = []
+argsOf (Return code) = []
+argsOf (LookUp id) = []
+
+-- what is lent holds bytes
+pub record LendsBytes (o : Op) : Type 0 where
+  pub memory : Bytes (memoryOf o)
+  pub args : Bytes (argsOf o)
+
 -- any sequence of calls: "each call gets card, staging, manifest and state as the last one left them"
 abbrev pub run : World → List Op → World
 run w [] = w
@@ -109,6 +147,17 @@ abbrev pub saidNumber : Said → ℤ
 saidNumber (Answered c v) = cond (isFine c) (pos v) (number c)
 saidNumber (Ended f) = fateNumber f
 saidNumber (Part bytes) = pos (length bytes)
+
+-- "The outcome gives events and bytes"; no other answer does
+abbrev pub saidEvents : Said → ℕ
+saidEvents (Answered c v) = 0
+saidEvents (Ended f) = fateEvents f
+saidEvents (Part bytes) = 0
+
+abbrev pub saidBytes : Said → ℕ
+saidBytes (Answered c v) = 0
+saidBytes (Ended f) = kept f
+saidBytes (Part bytes) = 0
 
 -- refused: a code is given. "Discards are outcomes", and a look-up gives no code
 abbrev pub isRefused : Said → Bool

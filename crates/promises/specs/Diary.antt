@@ -5,9 +5,8 @@ use mathlib.Core.Path.{_≡_}
 use mathlib.Core.Bool.{true, cond}
 use mathlib.Core.List.{List, [], _∷_, _++_}
 use Prim.Native.Nat.{ℕ, _+_, _/_, _≤_}
-use lib.ListN.{length, take}
+use lib.ListN.{length}
 use Rattle.record.specs.Record.{recordBytes}
-use Rattle.card.specs.Records.{records}
 use Rattle.card.specs.Walk.{chainTo}
 use Rattle.weave.specs.Args.{writeArgs}
 use Rattle.takes.specs.Payloads.{payloadBytes}
@@ -15,7 +14,7 @@ use Rattle.host.specs.declared.Fate.{Fate}
 use Rattle.host.specs.declared.Fate.the-variants.{Refused, Discarded, Running, Committed}
 use Rattle.host.specs.Hosts.{Lent}
 use Rattle.host.specs.Stage.{headerFor, writtenTopic, isPanic}
-use Rattle.promises.specs.Box.{World, Op, Begin, Ingress, Write, Read, Open, Next, Close, Return, LookUp, Said, Answered, Ended, Part, step, isRefused}
+use Rattle.promises.specs.Box.{World, recordsOn, cardRecords, cardChained, stagedPart, stagedRecords, Op, Begin, Ingress, Write, Read, Open, Next, Close, Return, LookUp, Said, Answered, Ended, Part, step, isRefused}
 
 pub record Diary : Type 0 where
   pub kept : List (List ℕ)
@@ -87,24 +86,18 @@ diary w d (o ∷ os) = diary (step w o .world) (entered w d o) os
 
 -- the diary's first page, at mount: what the card holds
 abbrev pub firstPage : Lent → ℕ → Diary
-firstPage l used = record { kept = records (take used (l .card)) 1; staged = []; units = 0 }
+firstPage l used = record { kept = recordsOn (l .card) used; staged = []; units = 0 }
 
 -- ---- the box agrees
 
--- for the used length, the next number, the staged bytes and their count, the units, the trace, and the two buffers
-pub record AgreesAt (used next staged′ count units′ : ℕ) (trace card staging : List ℕ) (d : Diary) : Type 0 where
-  pub on-card : used ≤ length card
-  pub in-staging : staged′ ≤ length staging
-  pub traced : length trace ≡ 32
+pub record Agrees (w : World) (d : Diary) : Type 0 where
+  pub on-card : w .host .used ≤ length (w .lent .card)
+  pub in-staging : w .host .weave .staged ≤ length (w .lent .staging)
+  pub traced : length (w .host .weave .trace) ≡ 32
   -- the card's records are the events that were kept, and the staged bytes carry that chain on
-  pub chained : chainTo (take used card) 1 next ≡ true
-  pub kept : records (take used card) 1 ≡ d .kept
-  pub carried : chainTo (take staged′ staging) next (next + count) ≡ true
-  pub staged : records (take staged′ staging) next ≡ d .staged
+  pub chained : cardChained (w .lent) (w .host) ≡ true
+  pub kept : cardRecords w ≡ d .kept
+  pub carried : chainTo (stagedPart (w .lent) (w .host)) (w .host .next .0) (w .host .next .0 + w .host .weave .count) ≡ true
+  pub staged : stagedRecords w ≡ d .staged
   -- "units are a sum over the accepted module calls"
-  pub units : units′ ≡ d .units
-
-abbrev pub Agrees : World → Diary → Type 0
-Agrees w d =
-    AgreesAt (w .host .used) (w .host .next .0) (w .host .weave .staged) (w .host .weave .count) (w .host .weave .units) (w .host .weave .trace)
-    (w .lent .card) (w .lent .staging) d
+  pub units : w .host .weave .units ≡ d .units

@@ -3,7 +3,7 @@
 use mathlib.Core.Path.{_≡_}
 use mathlib.Core.Bool.{Bool, true, false}
 use mathlib.Core.List.{List, [], _∷_, _++_}
-use Prim.Native.Nat.{ℕ}
+use Prim.Native.Nat.{ℕ, _+_, _/_, _≤_}
 use lib.IntN.{ℤ, pos}
 use lib.ListN.{length}
 use Rattle.le.specs.Splice.{zeros}
@@ -15,19 +15,19 @@ use Rattle.text.specs.Flags.{goodFlags}
 use Rattle.value.specs.Cells.{cellBytes}
 use Rattle.value.specs.Scalars.{canonical}
 use Rattle.value.specs.Forms.{payload}
-use Rattle.record.specs.Record.{recordBytes}
-use Rattle.card.specs.Listing.{listOf, pageOf}
+use Rattle.card.specs.Pick.{All}
 use Rattle.card.specs.declared.Cursor.{Cursor}
-use Rattle.card.specs.declared.Page.{Page}
-use Rattle.card.specs.declared.Page.the-variants.{End, Short, Bytes}
 use Rattle.weave.specs.declared.Code.{Code}
-use Rattle.weave.specs.declared.Code.the-variants.{Bad}
+use Rattle.weave.specs.declared.Code.the-variants.{NoRoom, Bad}
 use Rattle.weave.specs.declared.Spoiled.the-variants.{Not}
-use Rattle.weave.specs.Codes.{isFine}
-use Rattle.host.specs.declared.Host.{Host}
+use Rattle.weave.specs.Codes.{number}
+use Rattle.weave.specs.Moves.{cursorOf}
+use Rattle.weave.specs.Args.{nextArgs}
 use Rattle.host.specs.declared.Fate.the-variants.{Discarded}
-use Rattle.host.specs.Hosts.{Lent}
-use Rattle.host.specs.Ending.{returnCheck, fateOf}
+use Rattle.promises.specs.Box.{World, Next, Return, Ended, step, saidNumber}
+use Rattle.promises.specs.Checks.{Passed, gate, nextFirst}
+use Rattle.promises.specs.Outcome.{Returns}
+use Rattle.promises.specs.Turn.{listLeft}
 
 -- a case: what is asked, and the answer last
 pub data Case : Type 0 where
@@ -38,26 +38,23 @@ pub data Case : Type 0 where
   float : ℕ → ℕ → Case
   topic : List ℕ → Bool → Case
   text : List ℕ → Bool → Case
-  page : ℕ → ℕ → ℕ → ℕ → Page → Case
+  window : ℕ → ℕ → ℕ → ℤ → Case
+  twoLeft : ℕ → ℤ → Case
   returned : ℤ → Code → Case
 
--- a take: topic 9, raw 5
-abbrev take9 : ℕ → List ℕ
-take9 n =
-    recordBytes (record { id = record { 0 = n }; flags = 1; time = record { 0 = 0 }; agent = 1 }) (zeros 32)
-    (108 ∷ 111 ∷ 111 ∷ 112 ∷ 47 ∷ 116 ∷ 97 ∷ 107 ∷ 101 ∷ []) (118 ∷ 101 ∷ 114 ∷ 115 ∷ 101 ∷ [])
+-- a next that passes its checks up to the soundness of the card, and could pay for n bytes
+pub record Ready (w : World) (m : List ℕ) (a n : ℕ) : Type 0 where
+  pub passed : All Passed (gate w m ++ nextFirst w m a)
+  pub budget : w .host .weave .units + (1 + n / 8) ≤ w .host .weave .resmax
 
--- two of them, numbered 5 and 6
-unfoldable pub twoTakes : List (List ℕ)
-twoTakes = take9 5 ∷ take9 6 ∷ []
-
--- a cursor upward over all topics
-abbrev pub cursorOver : ℕ → ℕ → ℕ → Cursor
-cursorOver from′ to′ limit′ = record { filter = zeros 64; size = 0; from = record { 0 = from′ }; to = record { 0 = to′ }; limit = limit′; desc = false }
+-- the cursor that it asks for
+abbrev pub cursorAt : World → List ℕ → ℕ → Cursor
+cursorAt w m a = cursorOf (w .host .weave) (nextArgs m a .handle)
 
 -- what a case says: the total_len of a topic and a payload of these lengths; the data_len of the value at p of memory m; good flags; a span inside; a
--- float's bits as they are stored (`float-canonical` of value's proofs/ScalarLaws.antt ties `canonical` to the code's float); a good topic; UTF-8; what the first next of a cursor
--- with this window, limit and capacity finds over two takes; what becomes of a weave that is not spoiled by a return with this code, whatever the box
+-- float's bits as they are stored (`float-canonical` of value's proofs/ScalarLaws.antt ties `canonical` to the code's float); a good topic; UTF-8; whatever the box,
+-- what a next answers whose cursor has this window and limit, and one into so many bytes where two records of 152 are left; and what becomes of a weave that is
+-- not spoiled by a return with this code
 abbrev pub Holds : Case → Type 0
 Holds (total t d n) = totalLen t d ≡ n
 Holds (stored m p n) = length (payload m p) ≡ n
@@ -66,9 +63,13 @@ Holds (span ptr len m b) = inside ptr len m ≡ b
 Holds (float x n) = canonical x ≡ n
 Holds (topic s b) = goodTopic s ≡ b
 Holds (text s b) = utf8 s ≡ b
-Holds (page from to limit cap p) = pageOf cap (listOf (λ (t : List ℕ). true) (cursorOver from to limit) twoTakes) ≡ p
-Holds (returned code c) =
-    (l : Lent) (h : Host) → isFine (returnCheck l h) ≡ true → h .weave .spoiled .0 ≡ Not → fateOf l h code ≡ Discarded c
+Holds (window from to limit z) =
+    (w : World) (m : List ℕ) (a : ℕ) → Ready w m a 0 → cursorAt w m a .from .0 ≡ from → cursorAt w m a .to .0 ≡ to → cursorAt w m a .limit ≡ limit
+    → saidNumber (step w (Next m a) .said) ≡ z
+Holds (twoLeft cap z) =
+    (w : World) (m : List ℕ) (a : ℕ) (r s : List ℕ) → Ready w m a 304 → nextArgs m a .out .len ≡ cap → listLeft w (nextArgs m a .handle) ≡ r ∷ s ∷ []
+    → length r ≡ 152 → length s ≡ 152 → saidNumber (step w (Next m a) .said) ≡ z
+Holds (returned code c) = (w : World) → Returns w → w .host .weave .spoiled .0 ≡ Not → step w (Return code) .said ≡ Ended (Discarded c)
 
 -- a memory with a string at 8, and the string's 3 bytes, `abc`, behind its 32
 abbrev string3 : List ℕ
@@ -98,9 +99,9 @@ edges =
     ∷ text (0xF4 ∷ 0x90 ∷ 0x80 ∷ 0x80 ∷ []) false
     ∷ text (0xF4 ∷ 0x8F ∷ 0xBF ∷ 0xBF ∷ []) true
     -- P10: window 5 to 5, or limit 0: first next answers 0
-    ∷ page 5 5 9 65536 End ∷ page 1 9 0 65536 End
+    ∷ window 5 5 9 (pos 0) ∷ window 1 9 0 (pos 0)
     -- P11: two records of 152: cap 151 gives -4, 303 one, 304 two
-    ∷ page 1 9 9 151 Short ∷ page 1 9 9 303 (Bytes 152) ∷ page 1 9 9 304 (Bytes 304)
+    ∷ twoLeft 151 (number NoRoom) ∷ twoLeft 303 (pos 152) ∷ twoLeft 304 (pos 304)
     -- P12: return 2: discard -5
     ∷ returned (pos 2) Bad
     ∷ []

@@ -1,8 +1,11 @@
 pub mod Box
 pub mod Refusal
+pub mod Checks
+pub mod Mounting
 pub mod Accepted
 pub mod Outcome
 pub mod Diary
 pub mod Turn
 pub mod ReadBack
 pub mod Edges
+pub mod TwoWeaves

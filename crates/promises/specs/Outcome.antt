@@ -1,24 +1,28 @@
 -- Promise 2: "An outcome says committed exactly when 01's conditions hold."
 -- Assumes nothing.
 use mathlib.Core.Path.{_≡_}
-use mathlib.Core.Bool.{Bool, true, false}
+use mathlib.Core.Bool.{Bool, true, false, cond}
 use mathlib.Core.List.{List, [], _∷_}
 use mathlib.Core.Logic.{_⊎_}
-use Prim.Native.Nat.{ℕ, _+_, _≤_}
+use Prim.Native.Nat.{ℕ, _+_, _≤_, _<_}
 use lib.IntN.{ℤ, pos}
 use lib.ListN.{length, take}
 use Rattle.le.specs.Le.{leAt}
 use Rattle.le.specs.Splice.{part, zeros}
 use Rattle.manifest.specs.Saying.{modulesSaid, manifestOf}
 use Rattle.card.specs.Walk.{chainTo}
-use Rattle.weave.specs.declared.Spoiled.the-variants.{Not}
-use Rattle.weave.specs.declared.Code.the-variants.{Denied}
-use Rattle.weave.specs.Codes.{isFine, spoiledCode}
+use Rattle.weave.specs.declared.Spoiled.the-variants.{Not, Overspent, Panicked}
+use Rattle.weave.specs.declared.Weave.{Weave}
+use Rattle.weave.specs.declared.Code.{Code}
+use Rattle.weave.specs.declared.Code.the-variants.{Denied, Unsound, NoRoom, Bad, Budget}
+use Rattle.weave.specs.Codes.{isFine, number, spoiledCode}
+use Rattle.weave.specs.Table.{noSlots}
 use Rattle.weave.specs.States.{freshWeave}
 use Rattle.host.specs.declared.Host.{Host}
 use Rattle.host.specs.declared.Fate.the-variants.{Refused, Discarded, Running, Committed}
 use Rattle.host.specs.Hosts.{Lent, lentCheck}
-use Rattle.promises.specs.Box.{World, Op, Said, Answered, Ended, Part, Step, step, saidNumber}
+use Rattle.promises.specs.Box.{World, stagedPart, Op, Return, isRefused, saidEvents, saidBytes, Said, Answered, Ended, Part, Step, step, saidNumber}
+use Rattle.promises.specs.Checks.{failing, checksOf}
 use Rattle.promises.specs.Refusal.{OnlyThere}
 
 -- 01's conditions, in the order in which it gives them
@@ -33,9 +37,67 @@ pub record Conditions (l : Lent) (h : Host) (code : ℤ) : Type 0 where
   -- "Otherwise the next module has its turn; after the last .."
   pub last : h .weave .turn ≡ modulesSaid (manifestOf (l .text))
   -- "the staged bytes and their count .. carry that chain on"
-  pub sound : chainTo (take (h .weave .staged) (l .staging)) (h .next .0) (h .next .0 + h .weave .count) ≡ true
+  pub sound : chainTo (stagedPart l h) (h .next .0) (h .next .0 + h .weave .count) ≡ true
   -- "if the staged bytes don't fit the card, discard with -4; else commit"
   pub fits : h .used + h .weave .staged ≤ length (l .card)
+
+-- ---- what else can come of a return, in 01's order
+
+-- "Return has checks 1 and 2 only"
+pub record Returns (w : World) : Type 0 where
+  pub check-1 : isFine (lentCheck (w .lent) (w .host)) ≡ true
+  pub running : w .host .weave .running ≡ true
+
+-- nothing speaks against the weave but, at its end, what is staged
+pub record Unhindered (w : World) (code : ℤ) : Type 0 where
+  pub returns : Returns w
+  pub unspoiled : w .host .weave .spoiled .0 ≡ Not
+  pub zero-or-one : (code ≡ pos 0) ⊎ (code ≡ pos 1)
+
+abbrev pub moduleCount : World → ℕ
+moduleCount w = modulesSaid (manifestOf (w .lent .text))
+
+-- the staged bytes and their count carry the card's chain on
+abbrev pub stagedChained : World → Bool
+stagedChained w = chainTo (stagedPart (w .lent) (w .host)) (w .host .next .0) (w .host .next .0 + w .host .weave .count)
+
+-- the reason of a discard, by 01's code
+pub data Reason (w : World) (code : ℤ) : Code → Type 0 where
+  -- "spoiled gives discard with its reason"
+  overspent : Returns w → w .host .weave .spoiled .0 ≡ Overspent → Reason w code Budget
+  panicked : Returns w → w .host .weave .spoiled .0 ≡ Panicked → Reason w code Denied
+  -- "a code from -7 to -1 gives discard with it"
+  own : Returns w → w .host .weave .spoiled .0 ≡ Not → (c : Code) → isFine c ≡ false → number c ≡ code → Reason w code c
+  -- "other codes except 0 and 1 give discard with -5"
+  other : Returns w → w .host .weave .spoiled .0 ≡ Not → ((c : Code) → number c ≡ code → ⊥) → (code ≡ pos 1 → ⊥) → Reason w code Bad
+  -- "after the last, -3 as above, then, if the staged bytes don't fit the card, discard with -4"
+  unsound : Unhindered w code → w .host .weave .turn ≡ moduleCount w → stagedChained w ≡ false → Reason w code Unsound
+  no-room : Unhindered w code → w .host .weave .turn ≡ moduleCount w → stagedChained w ≡ true → length (w .lent .card) < w .host .used + w .host .weave .staged
+      → Reason w code NoRoom
+
+-- what a return answers, in 01's numbers: its code, "discard with its reason", or 0; and "The outcome gives events and bytes"
+pub record InNumbers (w : World) (code : ℤ) (s : Said) : Type 0 where
+  pub refused : isRefused s ≡ true → saidNumber s ≡ number (failing (checksOf w (Return code)))
+  pub discarded : (c : Code) → Reason w code c → (saidNumber s ≡ number c) × ((saidEvents s ≡ 0) × (saidBytes s ≡ 0))
+  pub running : Unhindered w code → w .host .weave .turn < moduleCount w → (saidNumber s ≡ pos 0) × ((saidEvents s ≡ 0) × (saidBytes s ≡ 0))
+  pub committed : Conditions (w .lent) (w .host) code → (saidNumber s ≡ pos 0) × ((saidEvents s ≡ w .host .weave .count) × (saidBytes s ≡ w .host .weave .staged))
+
+-- "Otherwise the next module has its turn"; "Cursors close at each return"; and ingress is too late
+abbrev pub nextTurn : Weave → Weave
+nextTurn v = record {
+  running = v .running;
+  spoiled = v .spoiled;
+  turn = v .turn + 1;
+  late = true;
+  staged = v .staged;
+  count = v .count;
+  units = v .units;
+  resmax = v .resmax;
+  time = v .time;
+  trace = v .trace;
+  opened = v .opened;
+  slots = noSlots;
+}
 
 -- the card, the manifest and what the state says of them are as they were
 pub record SameCard (was is : World) : Type 0 where
@@ -58,6 +120,25 @@ saysCommitted (Part bytes) = false
 abbrev pub NoneCommitted : World → List Op → Type 0
 NoneCommitted w [] = Unit {0}
 NoneCommitted w (o ∷ os) = (saysCommitted (step w o .said) ≡ false) × NoneCommitted (step w o .world) os
+
+-- a return that was not refused
+abbrev pub isReturned : Said → Bool
+isReturned (Answered c v) = false
+isReturned (Ended (Refused c)) = false
+isReturned (Ended (Discarded c)) = true
+isReturned (Ended Running) = true
+isReturned (Ended (Committed events bytes)) = true
+isReturned (Part bytes) = false
+
+-- how many of a sequence of calls are such returns
+abbrev pub returnsIn : World → List Op → ℕ
+returnsIn w [] = 0
+returnsIn w (o ∷ os) = cond (isReturned (step w o .said)) 1 0 + returnsIn (step w o .world) os
+
+-- the weave runs, and runs on after each of them
+abbrev pub RunsOn : World → List Op → Type 0
+RunsOn w [] = w .host .weave .running ≡ true
+RunsOn w (o ∷ os) = (w .host .weave .running ≡ true) × RunsOn (step w o .world) os
 
 -- "Commit appends the staged bytes to the used part; no other card byte changes"
 pub record Appended (was is : World) : Type 0 where

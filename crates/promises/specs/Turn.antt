@@ -3,14 +3,14 @@
 -- Assumes nothing.
 use mathlib.Core.Path.{_≡_}
 use mathlib.Core.Bool.{Bool, true, false, cond}
-use mathlib.Core.List.{List, [], _∷_, _++_}
+use mathlib.Core.List.{List, [], _∷_, _++_, List·Memᴰ}
 use Prim.Native.Nat.{ℕ, _≤_, _<_}
 use lib.Dec.{eqb}
-use lib.ListN.{length}
+use lib.ListN.{length, take}
 use Rattle.text.specs.Compare.{prefixOf}
 use Rattle.record.specs.Record.{idOf, topicOf}
-use Rattle.card.specs.Pick.{only}
-use Rattle.card.specs.Listing.{filterOf}
+use Rattle.card.specs.Pick.{All, Sorted, only}
+use Rattle.card.specs.Listing.{filterOf, listOf, Before}
 use Rattle.card.specs.declared.Cursor.{Cursor}
 use Rattle.weave.specs.declared.Slot.{Slot}
 use Rattle.weave.specs.Table.{hasHandle}
@@ -30,18 +30,21 @@ InTurn (Close m a) = Unit {0}
 InTurn (Return code) = ⊥
 InTurn (LookUp id) = Unit {0}
 
--- the records that one call hands over on the cursor k: those of a next with its handle that is not refused
+-- the records of a page that one call asks for on the cursor k: those of a next with its handle
+abbrev pub pageOn : ℕ → World → Op → List (List ℕ)
+pageOn k w (Begin args) = []
+pageOn k w (Ingress topic payload) = []
+pageOn k w (Write m a) = []
+pageOn k w (Read m a) = []
+pageOn k w (Open m a) = []
+pageOn k w (Next m a) = cond (eqb (nextArgs m a .handle) k) (nextPart (w .lent) (w .host) m a) []
+pageOn k w (Close m a) = []
+pageOn k w (Return code) = []
+pageOn k w (LookUp id) = []
+
+-- .. that it hands over, if it is not refused
 abbrev pub givenBy : ℕ → World → Op → List (List ℕ)
-givenBy k w (Begin args) = []
-givenBy k w (Ingress topic payload) = []
-givenBy k w (Write m a) = []
-givenBy k w (Read m a) = []
-givenBy k w (Open m a) = []
-givenBy k w (Next m a) =
-    cond (isRefused (step w (Next m a) .said)) [] (cond (eqb (nextArgs m a .handle) k) (nextPart (w .lent) (w .host) m a) [])
-givenBy k w (Close m a) = []
-givenBy k w (Return code) = []
-givenBy k w (LookUp id) = []
+givenBy k w o = cond (isRefused (step w o .said)) [] (pageOn k w o)
 
 -- a next with the handle k
 abbrev pub isNextOn : ℕ → Op → Bool
@@ -92,6 +95,15 @@ pub record Allowed (may : List ℕ → Bool) (c : Cursor) (r : List ℕ) : Type 
   -- "Window: start ≤ id < end"
   pub from : c .from .0 ≤ idOf r
   pub to : idOf r < c .to .0
+
+-- of the events rs these are all that are allowed: every one, none besides, each once, in the asked order; and a cursor lists the first of them
+pub record ListedOf (may : List ℕ → Bool) (c : Cursor) (rs all : List (List ℕ)) : Type 0 where
+  pub every : (r : List ℕ) → List·Memᴰ r rs → Allowed may c r → List·Memᴰ r all
+  pub of-these : All (λ (r : List ℕ). List·Memᴰ r rs) all
+  pub none-besides : All (Allowed may c) all
+  pub in-order : Sorted (Before (c .desc)) all
+  -- "The limit counts from the list's head"
+  pub head : listOf may c rs ≡ take (c .limit) all
 
 -- the cursor c is the one that the open at a of memory m asks for
 pub record AskedBy (m : List ℕ) (a : ℕ) (c : Cursor) : Type 0 where

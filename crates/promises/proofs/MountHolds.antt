@@ -1,0 +1,77 @@
+-- Mount: its code by the first check that fails, the offset, and the state.
+-- Assumes nothing.
+use mathlib.Core.Path.{_≡_, refl, sym, ap, _∙_}
+use mathlib.Core.Bool.{false, _&&_, true≢false}
+use Prim.Native.Nat.{ℕ, _+_}
+use native.Mathlib.Omega.{arith}
+use borrow.Author.Tests.{leb-true}
+use lib.Dec.{leb, eqb}
+use lib.ListN.{length, take}
+use lib.Seq.{length-take-le}
+use Rattle.le.proofs.TestLaws.{Tested, passes, fails, tested}
+use Rattle.manifest.specs.Saying.{isGood, manifestOf}
+use Rattle.card.specs.Records.{size}
+use Rattle.card.specs.Walk.{chain}
+use Rattle.weave.specs.declared.Code.the-variants.{Fine, Unsound, Bad}
+use Rattle.weave.specs.Codes.{isFine, need}
+use Rattle.host.specs.declared.Mounted.{Mounted}
+use Rattle.host.specs.Hosts.{Lent, lengthsOf}
+use Rattle.host.specs.Mount.{freshHost, noHost, sizesFine, mountCheck, mountedBy, mounted}
+use Rattle.promises.specs.Box.{recordsOn}
+use Rattle.promises.specs.Checks.{failing}
+use Rattle.promises.specs.Mounting.{mountChecks, StateOf, noLengths}
+
+pub record Mounts (l : Lent) (used : ℕ) : Type 0 where
+  pub code : mounted l used .code ≡ failing (mountChecks l used)
+  pub zero : isFine (mounted l used .code) ≡ false → StateOf (mounted l used .host) noLengths 0 0
+  pub offset : mounted l used .code ≡ Unsound → mounted l used .at ≡ size (recordsOn (l .card) used)
+  pub fresh : mounted l used .code ≡ Fine → StateOf (mounted l used .host) (lengthsOf l) used (1 + length (recordsOn (l .card) used))
+
+module _ (l : Lent) (used : ℕ) where
+  no-state : StateOf noHost noLengths 0 0
+  unfolding noHost freshHost
+  no-state = record { lengths = refl; used = refl; next = refl; healthy = refl; weave = refl }
+
+  bad : mounted l used ≡ record { code = Bad; at = 0; host = noHost } → failing (mountChecks l used) ≡ Bad → Mounts l used
+  bad q f = record {
+    code = ap (λ (m : Mounted). m .code) q ∙ sym f;
+    zero = λ e. rw q no-state;
+    offset = λ e. let z : _≡_ {A = ℕ} 0 1 = cc in absurd (omega arith);
+    fresh = λ e. let z : _≡_ {A = ℕ} 0 1 = cc in absurd (omega arith);
+  }
+
+  broken : (at : ℕ) → mounted l used ≡ record { code = Unsound; at = at; host = noHost } → at ≡ size (recordsOn (l .card) used) → failing (mountChecks l used) ≡ Unsound → Mounts l used
+  broken at q s f = record {
+    code = ap (λ (m : Mounted). m .code) q ∙ sym f;
+    zero = λ e. rw q no-state;
+    offset = λ e. rw q s;
+    fresh = λ e. let z : _≡_ {A = ℕ} 0 1 = cc in absurd (omega arith);
+  }
+
+  whole : mounted l used ≡ record { code = Fine; at = 0; host = freshHost (lengthsOf l) used (1 + length (recordsOn (l .card) used)) } → failing (mountChecks l used) ≡ Fine → Mounts l used
+  unfolding freshHost
+  whole q f = record {
+    code = ap (λ (m : Mounted). m .code) q ∙ sym f;
+    zero = λ e. absurd (true≢false (sym (ap (λ (m : Mounted). isFine (m .code)) q) ∙ e));
+    offset = λ e. let z : _≡_ {A = ℕ} 0 1 = cc in absurd (omega arith);
+    fresh = λ e. rw q (record { lengths = refl; used = refl; next = refl; healthy = refl; weave = refl });
+  }
+
+  -- THE PROMISE
+  pub mounts : Mounts l used
+  unfolding mounted mountCheck sizesFine lengthsOf need mountedBy chain
+  mounts =
+      go (tested (leb 65536 (length (l .staging)) && (leb (length (l .staging)) 1048576 && leb (length (l .card)) 16777216))) (tested (leb used (length (l .card))))
+      (tested (isGood (manifestOf (l .text)))) (tested (eqb (size (recordsOn (l .card) used)) used))
+    where
+      go : Tested (leb 65536 (length (l .staging)) && (leb (length (l .staging)) 1048576 && leb (length (l .card)) 16777216)) → Tested (leb used (length (l .card)))
+          → Tested (isGood (manifestOf (l .text))) → Tested (eqb (size (recordsOn (l .card) used)) used) → Mounts l used
+      go (fails a) b c d = bad (rw a) (rw a)
+      go (passes a) (fails b) c d = bad (rw (a, b)) (rw (a, b))
+      go (passes a) (passes b) (fails c) d = bad (rw (a, b, c)) (rw (a, b, c))
+      go (passes a) (passes b) (passes c) (fails d) =
+          let long : length (take used (l .card)) ≡ used = length-take-le used (l .card) (leb-true used (length (l .card)) b) in
+          broken _ (rw (a, b, c, long, d)) refl (rw (a, b, c, d))
+      go (passes a) (passes b) (passes c) (passes d) =
+          let long : length (take used (l .card)) ≡ used = length-take-le used (l .card) (leb-true used (length (l .card)) b) in
+          whole (rw (a, b, c, long, d)) (rw (a, b, c, d))

@@ -1,0 +1,281 @@
+-- EVERY STEP IS A MOVE: the one place that goes through the operations. A further operation is a case of `moved`.
+-- Assumes nothing.
+use mathlib.Core.Path.{_≡_, refl, sym, ap, _∙_}
+use mathlib.Core.Bool.{Bool, true, false, not, _&&_, cond, true≢false}
+use mathlib.Core.List.{List, [], _∷_, _++_}
+use Prim.Native.Nat.{ℕ}
+use borrow.Author.Tests.{eqb-true, not-true}
+use lib.Dec.{leb}
+use lib.IntN.{ℤ}
+use lib.ListN.{length}
+use Rattle.le.proofs.TestLaws.{and-left, and-right}
+use Rattle.le.proofs.SpliceLaws.{splice-nil}
+use Rattle.weave.specs.declared.Code.{Code}
+use Rattle.weave.specs.declared.Code.the-variants.{NotNow, Bad}
+use Rattle.weave.specs.Codes.{isFine, isBudget}
+use Rattle.weave.specs.Args.{openArgs, nextArgs, closeHandle}
+use Rattle.weave.proofs.CodeLaws.{first-left}
+use Rattle.takes.specs.Opening.{opening}
+use Rattle.takes.specs.Begun.{begun}
+use Rattle.host.specs.declared.Host.{Host}
+use Rattle.host.specs.declared.Fate.the-variants.{Discarded}
+use Rattle.host.specs.Hosts.{Lent, withWeave, refused, settle}
+use Rattle.host.specs.Begin.{beginCheck, beginAnswer, beginStaging}
+use Rattle.host.specs.Stage.{ingressCheck, ingressAnswer, ingressStaging, isPanic, panicked, written, writeCheck, writeAnswer, writeStaging}
+use Rattle.host.specs.Reading.{readSound, readCheck, readAnswer, readMemory}
+use Rattle.host.specs.Cursors.{openCheck, openNext, openAnswer, closeCheck, closeNext, closeAnswer, nextHandle}
+use Rattle.host.specs.Paging.{nextSound, nextCheck, nextHost, nextCursor, nextAnswer, nextMemory}
+use Rattle.host.specs.Ending.{fateOf, finished, returnAnswer, returnCard, returnStaging}
+use Rattle.promises.specs.Box.{World, Op, Begin, Ingress, Write, Read, Open, Next, Close, Return, LookUp, answered, step, isRefused, memoryOf}
+use Rattle.promises.specs.Checks.{Check, failing, lentAsked, gate, writeAsks, readAsks, openAsks, nextAsks, closeAsks, checksOf}
+use Rattle.promises.specs.Diary.{Diary, ingressRecord, writtenRecord, noted}
+use Rattle.promises.specs.Turn.{pageOn, isNextOn}
+use Rattle.promises.proofs.ChecksHold.{Comes, begin-code, ingress-code, write-code, read-code, open-code, next-code, close-code, return-code}
+use Rattle.promises.proofs.AcceptedHolds.{begin-exactly, ingress-exactly, write-exactly, read-exactly, open-exactly, next-exactly, close-exactly, next-page, read-page}
+use Rattle.promises.proofs.OutcomeHolds.{Fated, turned-away, has-reason, turns-on, ends-badly, ends-well, fated, return-runs, conditions}
+use Rattle.promises.proofs.StagedLaws.{ingress-staged, write-staged}
+use Rattle.promises.proofs.MoveLaws.{Marks, Stages, Writes, Pays, Opens, Hands, Closes, Panics, Turns, Move, Rests, Begins, GoesOn, Commits, Discards, after, entryBy, handedBy, endsTurn, Moved}
+
+-- ---- a -6 is said in a weave alone
+
+-- checks none of which gives -6
+abbrev mild : List Check → Bool
+mild [] = true
+mild (c ∷ cs) = not (isBudget (c .code)) && mild cs
+
+pub no-budget : (cs : List Check) → mild cs ≡ true → isBudget (failing cs) ≡ false
+no-budget [] e = refl
+no-budget (c ∷ cs) e = go (c .asks) (no-budget cs (and-right (not (isBudget (c .code))) _ e))
+  where
+    go : (t : Bool) → isBudget (failing cs) ≡ false → isBudget (cond t (failing cs) (c .code)) ≡ false
+    go true ih = ih
+    go false ih = not-true (isBudget (c .code)) (and-left (not (isBudget (c .code))) _ e)
+
+-- a module call outside a weave does not come to the checks behind the second
+gate-idle : (w : World) (m : List ℕ) (cs : List Check) → w .host .weave .running ≡ false → isBudget (failing (gate w m ++ cs)) ≡ false
+gate-idle w m cs idle = go (leb (length m) 1048576) (lentAsked w .asks) (w .host .weave .running) _ idle
+  where
+    go : (a b r : Bool) (c : Code) → r ≡ false → isBudget (cond a (cond b (cond r c NotNow) Bad) Bad) ≡ false
+    go true true r c e = rw e
+    go true false r c e = refl
+    go false b r c e = refl
+
+-- ---- a call that ends in `settle`
+
+-- what it does when it is accepted
+record Accepted (w : World) (o : Op) : Type 0 where
+  move : Move w o
+  world : step w o .world ≡ after w o move
+  entry : (d : Diary) → noted w d o ≡ entryBy w o move d
+  given : (k : ℕ) → pageOn k w o ≡ handedBy k w o move
+  stays : endsTurn w o move ≡ false
+
+module _ (w : World) (o : Op) (c : Code) (v : ℕ) (next′ : Host) (staging′ memory′ : List ℕ)
+    (is : step w o ≡ answered w (settle (w .host) c v next′) staging′ memory′) where
+  -- THE LAW of `settle`: accepted it is what it is then; refused, nothing is changed but for the mark
+  settled : (isFine c ≡ false → (staging′ ≡ w .lent .staging) × (memory′ ≡ memoryOf o)) → Comes c (checksOf w o) → (w .host .weave .running ≡ false → isBudget (failing (checksOf w o)) ≡ false)
+      → (isRefused (step w o .said) ≡ false → isFine c ≡ true → Accepted w o) → Moved w o
+  unfolding settle refused withWeave
+  settled off code idle accepts = go (isFine c) refl (isBudget c) refl
+    where
+      in-weave : (r : Bool) → w .host .weave .running ≡ r → isBudget c ≡ true → w .host .weave .running ≡ true
+      in-weave true q b = q
+      in-weave false q b = absurd (true≢false (sym b ∙ ap isBudget (code .is) ∙ idle q))
+
+      go : (t : Bool) → isFine c ≡ t → (b : Bool) → isBudget c ≡ b → Moved w o
+      go true q b r =
+          let said : isRefused (step w o .said) ≡ false = rw (is, q) in
+          let y = accepts said q in
+          record {
+            move = y .move;
+            world = y .world;
+            entry = λ d. rw said (y .entry d);
+            given = λ k. rw said (y .given k);
+            returned = rw is (sym (y .stays));
+            refused = λ e. absurd (true≢false (sym e ∙ said));
+          }
+      go false q true r = record {
+        move = GoesOn (in-weave (w .host .weave .running) refl r) Marks;
+        world = rw (is, q, r, off q .0);
+        entry = λ d. rw (is, q, q);
+        given = λ k. rw (is, q, q);
+        returned = rw is;
+        refused = λ e. record { lent = rw (is, off q .0); memory = rw (is, off q .1); host = rw (is, q, r) };
+      }
+      go false q false r = record {
+        move = Rests;
+        world = rw (is, q, r, off q .0);
+        entry = λ d. rw (is, q, q);
+        given = λ k. rw (is, q, q);
+        returned = rw is;
+        refused = λ e. record { lent = rw (is, off q .0); memory = rw (is, off q .1); host = rw (is, q, r) };
+      }
+
+-- ---- a return, by its fate
+
+module _ (w : World) (code : ℤ) where
+  discards : (c : Code) → fateOf (w .lent) (w .host) code ≡ Discarded c → Moved w (Return code)
+  unfolding step returnAnswer returnCard returnStaging finished
+  discards c q = record {
+    move = Discards (λ i. i);
+    world = rw (q, splice-nil);
+    entry = λ d. rw q;
+    given = λ k. rw q;
+    returned = rw q;
+    refused = λ e. absurd (true≢false (sym e ∙ rw q));
+  }
+
+  fate-moved : Fated (w .lent) (w .host) code → Moved w (Return code)
+  unfolding step returnAnswer returnCard returnStaging finished withWeave
+  fate-moved (turned-away a q) = record {
+    move = Rests;
+    world = rw (q, splice-nil);
+    entry = λ d. rw q;
+    given = λ k. rw q;
+    returned = rw q;
+    refused = λ e. record { lent = rw (q, splice-nil); memory = refl; host = rw (q, ap isBudget (return-code w .is) ∙ no-budget (checksOf w (Return code)) refl) };
+  }
+  fate-moved (has-reason a b q) = discards _ q
+  fate-moved (turns-on a b low q) = record {
+    move = GoesOn (return-runs (w .lent) (w .host) a) (Turns (λ i. i) low);
+    world = rw (q, splice-nil);
+    entry = λ d. rw q;
+    given = λ k. rw q;
+    returned = rw q;
+    refused = λ e. absurd (true≢false (sym e ∙ rw q));
+  }
+  fate-moved (ends-badly a b c f q) = discards _ q
+  fate-moved (ends-well a b c f q) = record {
+    move = Commits (λ i. i) (rw q) code (conditions (w .lent) (w .host) code _ _ q .0);
+    world = rw q;
+    entry = λ d. rw q;
+    given = λ k. rw q;
+    returned = rw q;
+    refused = λ e. absurd (true≢false (sym e ∙ rw q));
+  }
+
+-- ---- each call
+
+module _ (w : World) where
+  abbrev l : Lent
+  l = w .lent
+
+  abbrev h : Host
+  h = w .host
+
+  begin-moved : (args : List ℕ) → Moved w (Begin args)
+  unfolding step beginAnswer beginStaging settle withWeave
+  begin-moved args =
+      settled w (Begin args) (beginCheck l h args) 0 (withWeave h (begun args)) (beginStaging l h args) [] refl (λ e. (rw e, refl)) (begin-code w args) (λ i. no-budget (checksOf w (Begin args)) refl)
+      (λ a f. record { move = Begins args (begin-exactly w args .0 a .idle) (λ b. b); world = rw f; entry = λ d. refl; given = λ k. refl; stays = refl })
+
+  ingress-moved : (topic payload : List ℕ) → Moved w (Ingress topic payload)
+  unfolding step ingressAnswer ingressStaging ingressRecord settle withWeave
+  ingress-moved topic payload =
+      settled w (Ingress topic payload) (ingressCheck l h topic payload) 0 _ (ingressStaging l h topic payload) [] refl (λ e. (rw e, refl)) (ingress-code w topic payload) (λ i. no-budget (checksOf w (Ingress topic payload)) refl)
+      (λ a f. record {
+        move = GoesOn (ingress-exactly w topic payload .0 a .running) (Stages _ _ (λ t. ingress-staged l h topic payload t (ingress-exactly w topic payload .0 a)));
+        world = rw f;
+        entry = λ d. refl;
+        given = λ k. refl;
+        stays = refl;
+      })
+
+  module _ (m : List ℕ) (at : ℕ) where
+    write-moved : Moved w (Write m at)
+    unfolding step writeAnswer writeStaging writtenRecord settle written panicked withWeave
+    write-moved =
+        settled w (Write m at) (writeCheck l h m at) 0 _ (writeStaging l h m at) m refl (λ e. (rw e, refl)) (write-code w m at) (gate-idle w m (writeAsks w m at)) (λ a f. go a f (isPanic m at) refl)
+      where
+        go : isRefused (step w (Write m at) .said) ≡ false → isFine (writeCheck l h m at) ≡ true → (p : Bool) → isPanic m at ≡ p → Accepted w (Write m at)
+        go a f true p =
+            record { move = GoesOn (write-exactly w m at .0 a .gated .running) Panics; world = rw (f, p); entry = λ d. rw p; given = λ k. refl; stays = refl }
+        go a f false p =
+            let may = write-exactly w m at .0 a in
+            record {
+              move = GoesOn (may .gated .running) (Writes (writtenRecord w m at) _ (may .budget p) (λ b t. write-staged l h m at t b may p));
+              world = rw (f, p);
+              entry = λ d. rw p;
+              given = λ k. refl;
+              stays = refl;
+            }
+
+    read-moved : Moved w (Read m at)
+    unfolding step readAnswer readMemory readCheck settle withWeave
+    read-moved =
+        settled w (Read m at) (readCheck l h m at) _ _ (l .staging) (readMemory l h m at) refl (λ e. (refl, rw e)) (read-code w m at) (gate-idle w m (readAsks w m at))
+        (λ a f.
+        let may = read-exactly w m at .0 a in
+        let page = read-page w m at (first-left (readSound l h m at) _ f) in
+        record { move = GoesOn (may .gated .running) (Pays _ (may .budget)); world = rw (f, page); entry = λ d. rw (f, page); given = λ k. refl; stays = refl })
+
+    open-moved : Moved w (Open m at)
+    unfolding step openAnswer openNext settle withWeave opening
+    open-moved =
+        settled w (Open m at) (openCheck l h m at) (nextHandle h) _ (l .staging) m refl (λ e. (refl, refl)) (open-code w m at) (gate-idle w m (openAsks w m at))
+        (λ a f.
+        let may = open-exactly w m at .0 a in
+        record {
+          move = GoesOn (may .gated .running) (Opens (opening m (openArgs m at) (nextHandle h)) refl (may .room) (may .budget));
+          world = rw f;
+          entry = λ d. refl;
+          given = λ k. refl;
+          stays = refl;
+        })
+
+    next-moved : Moved w (Next m at)
+    unfolding step nextAnswer nextMemory nextCheck nextHost nextCursor settle withWeave
+    next-moved =
+        settled w (Next m at) (nextCheck l h m at) _ _ (l .staging) (nextMemory l h m at) refl (λ e. (refl, rw e)) (next-code w m at) (gate-idle w m (nextAsks w m at))
+        (λ a f.
+        let may = next-exactly w m at .0 a in
+        let page = next-page w m at (first-left (nextSound l h m at) _ f) in
+        record {
+          move = GoesOn (may .gated .running) (Hands (nextArgs m at .handle) (nextArgs m at .out .len) (may .handle) (may .budget));
+          world = rw (f, page);
+          entry = λ d. rw (f, page);
+          given = λ k. refl;
+          stays = refl;
+        })
+
+    close-moved : Moved w (Close m at)
+    unfolding step closeAnswer closeNext settle withWeave
+    close-moved =
+        settled w (Close m at) (closeCheck l h m at) 0 _ (l .staging) m refl (λ e. (refl, refl)) (close-code w m at) (gate-idle w m (closeAsks w m at))
+        (λ a f.
+        let may = close-exactly w m at .0 a in
+        record { move = GoesOn (may .gated .running) (Closes (closeHandle m at) (may .handle) (may .budget)); world = rw f; entry = λ d. refl; given = λ k. refl; stays = refl })
+
+  look-moved : (id : ℕ) → Moved w (LookUp id)
+  unfolding step
+  look-moved id = record { move = Rests; world = refl; entry = λ d. refl; given = λ k. refl; returned = refl; refused = λ e. absurd (true≢false (sym e)) }
+
+  -- THE THEOREM
+  pub moved : (o : Op) → Moved w o
+  moved (Begin args) = begin-moved args
+  moved (Ingress topic payload) = ingress-moved topic payload
+  moved (Write m at) = write-moved m at
+  moved (Read m at) = read-moved m at
+  moved (Open m at) = open-moved m at
+  moved (Next m at) = next-moved m at
+  moved (Close m at) = close-moved m at
+  moved (Return code) = fate-moved w code (fated (w .lent) (w .host) code)
+  moved (LookUp id) = look-moved id
+
+-- a next on the cursor k
+pub record NextOn (k : ℕ) (o : Op) : Type 0 where
+  pub memory : List ℕ
+  pub at : ℕ
+  pub is : o ≡ Next memory at
+  pub handle : nextArgs memory at .handle ≡ k
+
+pub next-on : (k : ℕ) (o : Op) → isNextOn k o ≡ true → NextOn k o
+next-on k (Begin args) e = absurd (true≢false (sym e))
+next-on k (Ingress topic payload) e = absurd (true≢false (sym e))
+next-on k (Write m at) e = absurd (true≢false (sym e))
+next-on k (Read m at) e = absurd (true≢false (sym e))
+next-on k (Open m at) e = absurd (true≢false (sym e))
+next-on k (Next m at) e = record { memory = m; at = at; is = refl; handle = eqb-true (nextArgs m at .handle) k e }
+next-on k (Close m at) e = absurd (true≢false (sym e))
+next-on k (Return code) e = absurd (true≢false (sym e))
+next-on k (LookUp id) e = absurd (true≢false (sym e))

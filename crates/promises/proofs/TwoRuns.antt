@@ -1,0 +1,699 @@
+-- The run of two modules, on every empty card with room for one event.
+-- Assumes nothing.
+use mathlib.Core.Path.{_≡_, refl, sym, ap, subst, _∙_}
+use mathlib.Core.Bool.{Bool, true, false, _&&_}
+use mathlib.Core.List.{List, [], _∷_, _++_}
+use Prim.Native.Nat.{ℕ, zero, suc, _+_, _/_, _^_, _≤_, _<_}
+use native.Mathlib.Omega.{arith}
+use borrow.Author.Tests.{ltb-true, le-leb}
+use lib.Dec.{ltb}
+use lib.ListN.{length, take, length-replicate}
+use Rattle.le.specs.Le.{Bytes, leAt, leBytes}
+use Rattle.le.specs.Splice.{part, splice, zeros}
+use Rattle.le.proofs.TestLaws.{and-left, and-right}
+use Rattle.text.specs.Compare.{sameBytes}
+use Rattle.text.specs.Decimal.{numberOf, noLeadingZero, numberFrom, digits, valueFrom}
+use Rattle.text.specs.Flags.{goodFlags}
+use Rattle.text.specs.Lines.{closed, fields, lineAt, lines, field}
+use Rattle.text.specs.Span.{inside}
+use Rattle.text.specs.Topic.{goodText, goodTopic, noControl}
+use Rattle.text.specs.Utf8.{utf8, utf8From, after}
+use Rattle.text.specs.Words.{panicTopic, coreTopic, logTopic}
+use Rattle.value.specs.declared.Checked.{Checked}
+use Rattle.value.specs.declared.Fault.the-variants.{Fine as NoFault}
+use Rattle.manifest.specs.Line.{modulesIn, oneTo, holderIn, grantForm, rightIn}
+use Rattle.manifest.specs.Rights.{granted, anyGives, gives}
+use Rattle.manifest.specs.Words.{modulesWord, grantWord, inWord, outWord}
+use Rattle.manifest.specs.Saying.{isGood, modulesSaid, manifestOf, goodHead, modulesOf, grantLines, grantsSaid, goodGrants, allGrants, mayRead, mayWrite}
+use Rattle.weave.specs.Args.{recordFine, fieldAt, writeArgs, readArgs, openArgs, nextArgs, closeHandle, topicFine, filterFine, outFine, payloadFine}
+use Rattle.takes.specs.Payloads.{payloadChecked, payloadBytes}
+use Rattle.takes.specs.Begun.{argAt, begun}
+use Rattle.card.specs.Pick.{All, only}
+use Rattle.card.specs.Listing.{listed, turn, listOf, fit, pageOf, unfit, advance}
+use Rattle.card.proofs.ListingLaws.{fit-lists}
+use Rattle.card.specs.declared.Page.the-variants.{End, Bytes as Sized}
+use Rattle.card.specs.Records.{upTo, records}
+use Rattle.card.specs.Walk.{chain}
+use Rattle.weave.specs.declared.Code.the-variants.{Fine}
+use Rattle.weave.specs.Codes.{isFine, need}
+use Rattle.weave.specs.States.{freshWeave, begunWeave, paid, holding, tabled}
+use Rattle.host.specs.Hosts.{Lent, lentAs, lengthsOf, withWeave, lentCheck, settle}
+use Rattle.host.specs.Begin.{beginCheck, beginAnswer, beginStaging}
+use Rattle.host.specs.Mount.{freshHost, sizesFine, mountCheck, mountedBy, mounted}
+use Rattle.host.specs.Stage.{roomFine, headerFor, isPanic, writtenTopic, dataLen, writeCharge, written, writeCheck, writeAnswer, writeStaging}
+use Rattle.host.specs.declared.Fate.the-variants.{Running, Committed}
+use Rattle.record.specs.Record.{idOf, topicOf}
+use Rattle.record.specs.Written.{Written}
+use Rattle.text.specs.Sizes.{totalLen}
+use Rattle.weave.specs.Sums.{added}
+use Rattle.weave.proofs.SumLaws.{added-sum}
+use mathlib.Core.Logic.{inl}
+use lib.IntN.{pos}
+use Rattle.host.specs.Reading.{readSound, readList, readPage, readCheck, readAnswer}
+use Rattle.takes.specs.Pages.{pageCharge}
+use Rattle.weave.proofs.CodeLaws.{first-left}
+use Rattle.promises.specs.Accepted.{WriteMay, ReadMay, OpenMay, NextMay, CloseMay}
+use Rattle.promises.specs.Box.{World, recordsOn, cardRecords, Op, Begin, Write, Read, Open, Next, Close, Return, Answered, Ended, step, isRefused, memoryOf, mountedAs, run}
+use Rattle.promises.specs.Diary.{Diary, writtenRecord, noted, firstPage, Agrees}
+use Rattle.promises.proofs.AcceptedLaws.{settle-ok}
+use Rattle.promises.proofs.AcceptedHolds.{begin-exactly, write-exactly, read-exactly, open-exactly, next-exactly, close-exactly, read-page, next-page}
+use Rattle.weave.specs.declared.Slot.{Slot}
+use Rattle.weave.specs.Table.{freeSlot, noSlots, hasHandle, placeOf, slotOf}
+use Rattle.weave.specs.Checks.{slotFine, handleFine}
+use Rattle.card.specs.declared.Cursor.{Cursor}
+use Rattle.text.specs.Compare.{prefixOf}
+use Rattle.host.specs.Paging.{nextSound, nextList, nextPage, nextCheck, nextCursor, nextHost, nextAnswer}
+use Rattle.promises.specs.Turn.{listLeft, Allowed}
+use Rattle.promises.proofs.AskedHolds.{asked-by}
+use Rattle.promises.proofs.ListHolds.{means-listed}
+use Rattle.weave.specs.Moves.{cursorOf, openedWith, movedTo, closedAt}
+use Rattle.takes.specs.Opening.{opening}
+use Rattle.host.specs.Cursors.{openCheck, openNext, openAnswer, closeCheck, closeNext, closeAnswer}
+use Rattle.host.specs.Ending.{committed, finished, returnAnswer, returnCard, returnStaging}
+use Rattle.promises.specs.Outcome.{Conditions, nextTurn}
+use Rattle.promises.proofs.OutcomeHolds.{commits, committed-exactly}
+use Rattle.promises.proofs.ReadBackHolds.{write-reads-back}
+use Rattle.promises.proofs.ReturnHolds.{running-exactly, turn-passes}
+use Rattle.promises.proofs.DiaryHolds.{agrees-step, mount-agrees}
+use Rattle.promises.proofs.LifeHolds.{life-sane}
+use Rattle.promises.proofs.MountHolds.{mounts}
+use Rattle.promises.specs.TwoWeaves.{saidOver, twoModules, hundred, memory, theCalls, theAnswers}
+
+long-memory : length memory ≡ 312
+unfolding memory leBytes
+long-memory = refl
+
+said-good : isGood (manifestOf twoModules) ≡ true
+unfolding manifestOf goodHead modulesOf grantLines grantsSaid goodGrants allGrants closed modulesIn fields lineAt lines sameBytes field modulesWord oneTo numberOf noLeadingZero numberFrom digits valueFrom holderIn grantForm grantWord inWord outWord goodText utf8 utf8From after noControl
+said-good = refl
+
+said-two : modulesSaid (manifestOf twoModules) ≡ 2
+unfolding manifestOf goodHead modulesOf grantLines grantsSaid goodGrants allGrants closed modulesIn fields lineAt lines sameBytes field modulesWord oneTo numberOf noLeadingZero numberFrom digits valueFrom holderIn grantForm grantWord inWord outWord goodText utf8 utf8From after noControl
+said-two = refl
+
+may-write : mayWrite twoModules 1 (116 ∷ []) ≡ true
+unfolding mayWrite granted anyGives gives rightIn coreTopic logTopic panicTopic manifestOf goodHead modulesOf grantLines grantsSaid goodGrants allGrants closed modulesIn fields lineAt lines sameBytes field modulesWord oneTo numberOf noLeadingZero numberFrom digits valueFrom holderIn grantForm grantWord inWord outWord goodText utf8 utf8From after noControl
+may-write = refl
+
+may-read : (mayRead twoModules 1 (116 ∷ []) ≡ true) × (mayRead twoModules 2 (116 ∷ []) ≡ true)
+unfolding mayRead granted anyGives gives rightIn manifestOf goodHead modulesOf grantLines grantsSaid goodGrants allGrants closed modulesIn fields lineAt lines sameBytes field modulesWord oneTo numberOf noLeadingZero numberFrom digits valueFrom holderIn grantForm grantWord inWord outWord goodText utf8 utf8From after noControl
+may-read = (refl, refl)
+
+-- ---- the argument records
+
+topic-is : part 168 1 memory ≡ 116 ∷ []
+unfolding memory leBytes part
+topic-is = refl
+
+good-letter : goodTopic (116 ∷ []) ≡ true
+unfolding goodText utf8 utf8From after noControl
+good-letter = refl
+
+write-args : writeArgs memory 8 ≡ record { topic = record { ptr = 168; len = 1 }; place = 0; len = 0; flags = 1 }
+unfolding writeArgs fieldAt recordFine inside memory leBytes leAt
+write-args = refl
+
+read-args : readArgs memory 48 ≡ record { topic = record { ptr = 168; len = 1 }; start = record { 0 = 1 }; out = record { ptr = 176; len = 136 } }
+unfolding readArgs fieldAt recordFine inside memory leBytes leAt
+read-args = refl
+
+open-args : openArgs memory 88 ≡ record { topic = record { ptr = 168; len = 1 }; from = record { 0 = 1 }; to = record { 0 = 9 }; limit = 9; desc = 0 }
+unfolding openArgs fieldAt recordFine inside memory leBytes leAt
+open-args = refl
+
+next-args : nextArgs memory 136 ≡ record { handle = 1; out = record { ptr = 176; len = 136 } }
+unfolding nextArgs fieldAt recordFine inside memory leBytes leAt
+next-args = refl
+
+close-arg : closeHandle memory 160 ≡ 1
+unfolding fieldAt recordFine inside memory leBytes leAt
+close-arg = refl
+
+records-fine : (recordFine memory 8 40 ≡ true) × ((recordFine memory 48 40 ≡ true) × ((recordFine memory 88 48 ≡ true) × ((recordFine memory 136 24 ≡ true) × (recordFine memory 160 8 ≡ true))))
+unfolding recordFine inside memory leBytes
+records-fine = (refl, (refl, (refl, (refl, refl))))
+
+topic-fine : topicFine memory (record { ptr = 168; len = 1 }) ≡ true
+unfolding topicFine inside memory leBytes part goodText utf8 utf8From after noControl
+topic-fine = refl
+
+filter-fine : filterFine memory (record { ptr = 168; len = 1 }) ≡ true
+unfolding filterFine inside memory leBytes part goodText utf8 utf8From after noControl
+filter-fine = refl
+
+out-fine : outFine memory (record { ptr = 176; len = 136 }) ≡ true
+unfolding outFine inside memory leBytes
+out-fine = refl
+
+-- ---- what the write has
+
+no-panic : isPanic memory 8 ≡ false
+unfolding writeArgs fieldAt recordFine inside memory leBytes leAt part sameBytes panicTopic
+no-panic = refl
+
+payload-fine : payloadFine memory (writeArgs memory 8) ≡ true
+unfolding payloadFine writeArgs fieldAt recordFine inside memory leBytes leAt
+payload-fine = refl
+
+raw : payloadChecked memory (writeArgs memory 8) ≡ record { fault = NoFault; len = 0 }
+unfolding payloadChecked writeArgs fieldAt recordFine inside memory leBytes leAt
+raw = refl
+
+below : List ℕ → Bool
+below [] = true
+below (b ∷ s) = ltb b 256 && below s
+
+bytes-below : (s : List ℕ) → below s ≡ true → Bytes s
+unfolding below
+bytes-below [] e i = omega arith
+bytes-below (b ∷ s) e zero = omega (arith, ltb-true b 256 (and-left (ltb b 256) _ e))
+bytes-below (b ∷ s) e (suc i) = bytes-below s (and-right (ltb b 256) _ e) i
+
+memory-bytes : Bytes memory
+unfolding below memory leBytes
+memory-bytes = bytes-below memory refl
+
+no-bytes : Bytes []
+no-bytes i = omega arith
+
+topic-long : writeArgs memory 8 .topic .len ≡ 1
+topic-long = rw write-args
+
+data-none : dataLen memory 8 ≡ 0
+data-none = ap (λ (k : Checked). k .len) raw
+
+topic-read : writtenTopic memory 8 ≡ 116 ∷ []
+topic-read = rw (write-args, topic-is)
+
+long-hundred : length hundred ≡ 128
+long-hundred = refl
+
+-- ---- a box after some calls
+
+long : (k : ℕ) → length (zeros k) ≡ k
+long k = length-replicate {0} {A = ℕ} k 0
+
+record At (l : Lent) (os : List Op) (w : World) (d : Diary) : Type 0 where
+  is : run (mountedAs l 0) os ≡ w
+  bytes : All (λ (o : Op). Bytes (memoryOf o)) os
+  agrees : Agrees w d
+  check-1 : isFine (lentCheck (w .lent) (w .host)) ≡ true
+
+run-one : (os : List Op) (w : World) (o : Op) → run w (os ++ (o ∷ [])) ≡ step (run w os) o .world
+run-one [] w o = refl
+run-one (p ∷ os) w o = run-one os (step w p .world) o
+
+all-one : (os : List Op) (o : Op) → All (λ (o : Op). Bytes (memoryOf o)) os → Bytes (memoryOf o) → All (λ (o : Op). Bytes (memoryOf o)) (os ++ (o ∷ []))
+all-one [] o a b = (b, tt)
+all-one (p ∷ os) o a b = (a .0, all-one os o (a .1) b)
+
+-- .. and after one more that is accepted
+one-more : (l : Lent) → mounted l 0 .code ≡ Fine → (os : List Op) (w : World) (d : Diary) → At l os w d → (o : Op) → Bytes (memoryOf o) → isRefused (step w o .said) ≡ false
+    → (w′ : World) → step w o .world ≡ w′ → At l (os ++ (o ∷ [])) w′ (noted w d o)
+one-more l fine os w d a o b e w′ q =
+    let here : run (mountedAs l 0) (os ++ (o ∷ [])) ≡ w′ = run-one os (mountedAs l 0) o ∙ ap (λ (v : World). step v o .world) (a .is) ∙ q in
+    let all = all-one os o (a .bytes) b in
+    record {
+      is = here;
+      bytes = all;
+      agrees = rw (q, e) at (agrees-step w o b d (a .agrees));
+      check-1 = subst (λ (v : World). isFine (lentCheck (v .lent) (v .host)) ≡ true) here (life-sane l 0 (os ++ (o ∷ [])) all fine);
+    }
+
+one-listed : (p : List ℕ → Bool) (d : Bool) (k : ℕ) (r : List ℕ) → d ≡ false → k ≡ 9 → p r ≡ true → take k (only p (turn d (r ∷ []))) ≡ r ∷ []
+unfolding only turn
+one-listed p d k r x y z = rw (x, y, z)
+
+module _ (n c : ℕ) (n-least : 65536 ≤ n) (n-most : n ≤ 1048576) (c-least : 136 ≤ c) (c-most : c ≤ 16777216) where
+  abbrev l : Lent
+  l = lentAs (zeros n) (zeros c) twoModules
+
+  mount-ok : mounted l 0 .code ≡ Fine
+  unfolding records upTo
+  mount-ok =
+      mounts l 0 .code
+      ∙ rw (long n, long c, le-leb 65536 n n-least, le-leb n 1048576 n-most, le-leb c 16777216 c-most, le-leb 0 c (omega arith), said-good)
+
+  mount-host : mounted l 0 .host ≡ freshHost (lengthsOf l) 0 1
+  unfolding mounted mountCheck sizesFine lengthsOf need mountedBy chain records upTo
+  mount-host = rw (long n, long c, le-leb 65536 n n-least, le-leb n 1048576 n-most, le-leb c 16777216 c-most, le-leb 0 c (omega arith), said-good)
+
+  abbrev w₀ : World
+  w₀ = record { host = freshHost (lengthsOf l) 0 1; lent = l }
+
+  at₀ : At l [] w₀ (firstPage l 0)
+  at₀ =
+      let here : run (mountedAs l 0) [] ≡ w₀ = rw mount-host in
+      record { is = here; bytes = tt; agrees = subst (λ (w : World). Agrees w (firstPage l 0)) here (mount-agrees l 0 mount-ok); check-1 = subst (λ (w : World). isFine (lentCheck (w .lent) (w .host)) ≡ true) here (life-sane l 0 [] tt mount-ok) }
+
+  -- ---- begin
+
+  e₀ : isRefused (step w₀ (Begin hundred) .said) ≡ false
+  unfolding freshHost freshWeave
+  e₀ = begin-exactly w₀ hundred .1 (record { check-1 = at₀ .check-1; idle = refl; healthy = refl; long = refl })
+
+  f₀ : isFine (beginCheck (w₀ .lent) (w₀ .host) hundred) ≡ true
+  unfolding step beginAnswer
+  f₀ = settle-ok (w₀ .host) _ 0 _ e₀
+
+  abbrev w₁ : World
+  w₁ = record { host = withWeave (w₀ .host) (begun hundred); lent = lentAs (zeros (length (zeros n))) (zeros c) twoModules }
+
+  s₀ : step w₀ (Begin hundred) .said ≡ Answered Fine 0
+  unfolding step beginAnswer settle
+  s₀ = rw f₀
+
+  q₀ : step w₀ (Begin hundred) .world ≡ w₁
+  unfolding step beginAnswer beginStaging settle
+  q₀ = rw f₀
+
+  abbrev d₁ : Diary
+  d₁ = record { kept = recordsOn (zeros c) 0; staged = []; units = 0 }
+
+  at₁ : At l (take 1 theCalls) w₁ d₁
+  at₁ = one-more l mount-ok [] w₀ (firstPage l 0) at₀ (Begin hundred) no-bytes e₀ w₁ q₀
+
+  staging₁ : length (w₁ .lent .staging) ≡ n
+  staging₁ = long (length (zeros n)) ∙ long n
+
+  -- ---- write
+
+  may₁ : WriteMay (w₁ .lent) (w₁ .host) memory 8
+  unfolding withWeave begun begunWeave argAt leAt freshHost goodFlags roomFine
+  may₁ = record {
+    gated = record { memory = rw long-memory (omega arith); check-1 = at₁ .check-1; running = refl; unspoiled = refl };
+    args = records-fine .0;
+    topic = rw write-args topic-fine;
+    flags = rw write-args;
+    payload = payload-fine;
+    granted = rw topic-read may-write;
+    value = ap (λ (k : Checked). k .fault) raw;
+    room = λ p. rw (topic-long, data-none, staging₁, le-leb 136 n (omega arith));
+    budget = λ p. rw (topic-long, data-none) (omega arith);
+  }
+
+  e₁ : isRefused (step w₁ (Write memory 8) .said) ≡ false
+  e₁ = write-exactly w₁ memory 8 .1 may₁
+
+  f₁ : isFine (writeCheck (w₁ .lent) (w₁ .host) memory 8) ≡ true
+  unfolding step writeAnswer
+  f₁ = settle-ok (w₁ .host) _ 0 _ e₁
+
+  -- the event
+  abbrev event : List ℕ
+  event = writtenRecord w₁ memory 8
+
+  abbrev bytes₂ : ℕ
+  bytes₂ = totalLen (writeArgs memory 8 .topic .len) (dataLen memory 8)
+
+  abbrev w₂ : World
+  w₂ = record {
+    host = withWeave (w₁ .host) (holding (paid (w₁ .host .weave) (writeCharge (writeArgs memory 8 .topic .len) (dataLen memory 8))) bytes₂ (length (w₁ .lent .staging)));
+    lent = lentAs (splice (w₁ .lent .staging) (w₁ .host .weave .staged) event) (zeros c) twoModules;
+  }
+
+  s₁ : step w₁ (Write memory 8) .said ≡ Answered Fine 0
+  unfolding step writeAnswer settle
+  s₁ = rw f₁
+
+  q₁ : step w₁ (Write memory 8) .world ≡ w₂
+  unfolding step writeAnswer writeStaging writtenRecord settle written
+  q₁ = rw (f₁, no-panic)
+
+  time₁ : w₁ .host .weave .time .0 < 256 ^ 8
+  unfolding withWeave begun begunWeave argAt leAt
+  time₁ = omega arith
+
+  written₁ : Written (headerFor (w₁ .host) (writeArgs memory 8 .flags) (w₁ .host .weave .turn)) (w₁ .host .weave .trace) (writtenTopic memory 8) (payloadBytes memory (writeArgs memory 8)) event
+  written₁ = write-reads-back w₁ memory 8 memory-bytes (at₁ .agrees .traced) time₁ e₁ no-panic .1
+
+  payload-none : length (payloadBytes memory (writeArgs memory 8)) ≡ 0
+  unfolding payloadBytes writeArgs fieldAt recordFine inside memory leBytes leAt part
+  payload-none = refl
+
+  event-long : length event ≡ 136
+  event-long = written₁ .long ∙ rw (topic-read, payload-none)
+
+  event-topic : topicOf event ≡ 116 ∷ []
+  event-topic = written₁ .topic ∙ topic-read
+
+  event-id : idOf event ≡ 1
+  unfolding headerFor withWeave begun begunWeave freshHost added
+  event-id = written₁ .id
+
+  abbrev d₂ : Diary
+  d₂ = record { kept = recordsOn (zeros c) 0; staged = event ∷ []; units = 0 + (1 + length event / 8) }
+
+  at₂ : At l (take 2 theCalls) w₂ d₂
+  at₂ = rw no-panic at (one-more l mount-ok (take 1 theCalls) w₁ d₁ at₁ (Write memory 8) memory-bytes e₁ w₂ q₁)
+
+  staged₂ : w₂ .host .weave .staged ≡ 136
+  unfolding withWeave holding paid begun begunWeave
+  staged₂ = rw (topic-long, data-none) (added-sum 0 136 (length (w₁ .lent .staging)) (omega (arith, staging₁)))
+
+  count₂ : w₂ .host .weave .count ≡ 1
+  unfolding withWeave holding paid begun begunWeave added
+  count₂ = refl
+
+  -- ---- module 1 returns
+
+  s₂ : step w₂ (Return (pos 0)) .said ≡ Ended Running
+  unfolding withWeave holding paid begun begunWeave
+  s₂ =
+      running-exactly w₂ (pos 0) .1
+      (record { returns = record { check-1 = at₂ .check-1; running = refl }; unspoiled = refl; zero-or-one = inl refl }, rw said-two (omega arith))
+
+  abbrev w₃ : World
+  w₃ = record { host = withWeave (w₂ .host) (nextTurn (w₂ .host .weave)); lent = w₂ .lent }
+
+  at₃ : At l (take 3 theCalls) w₃ d₂
+  at₃ = rw s₂ at (one-more l mount-ok (take 2 theCalls) w₂ d₂ at₂ (Return (pos 0)) no-bytes (ap isRefused s₂) w₃ (turn-passes w₂ (pos 0) s₂))
+
+  -- ---- module 2 reads it
+
+  list₃ : readList (w₃ .lent) (w₃ .host) memory 48 ≡ event ∷ []
+  unfolding readList only sameBytes
+  list₃ = rw (at₃ .agrees .staged, read-args, topic-is, event-topic, event-id)
+
+  page₃ : pageOf 136 (event ∷ []) ≡ Sized 136
+  unfolding pageOf fit
+  page₃ = rw (event-long, event-long)
+
+  may₃ : ReadMay (w₃ .lent) (w₃ .host) memory 48
+  unfolding withWeave holding paid begun begunWeave argAt leAt added freshHost
+  may₃ = record {
+    gated = record { memory = rw long-memory (omega arith); check-1 = at₃ .check-1; running = refl; unspoiled = refl };
+    args = records-fine .1 .0;
+    topic = rw read-args topic-fine;
+    out = rw read-args out-fine;
+    granted = rw (read-args, topic-is) (may-read .1);
+    sound = at₃ .agrees .carried;
+    room = rw (list₃, read-args, page₃);
+    budget = rw (list₃, read-args, page₃, topic-long, data-none) (omega arith);
+  }
+
+  e₃ : isRefused (step w₃ (Read memory 48) .said) ≡ false
+  e₃ = read-exactly w₃ memory 48 .1 may₃
+
+  f₃ : isFine (readCheck (w₃ .lent) (w₃ .host) memory 48) ≡ true
+  unfolding step readAnswer
+  f₃ = settle-ok (w₃ .host) _ _ _ e₃
+
+  abbrev w₄ : World
+  w₄ = record { host = withWeave (w₃ .host) (paid (w₃ .host .weave) (pageCharge (readPage (w₃ .lent) (w₃ .host) memory 48))); lent = w₃ .lent }
+
+  q₃ : step w₃ (Read memory 48) .world ≡ w₄
+  unfolding step readAnswer settle
+  q₃ = rw f₃
+
+  s₃ : step w₃ (Read memory 48) .said ≡ Answered Fine 136
+  unfolding step readAnswer settle readCheck
+  s₃ = rw (f₃, read-page w₃ memory 48 (first-left (readSound (w₃ .lent) (w₃ .host) memory 48) _ f₃), list₃, read-args, page₃)
+
+  abbrev d₄ : Diary
+  d₄ = record { kept = recordsOn (zeros c) 0; staged = event ∷ []; units = (0 + (1 + length event / 8)) + (1 + 136 / 8) }
+
+  at₄ : At l (take 4 theCalls) w₄ d₄
+  at₄ = rw s₃ at (one-more l mount-ok (take 3 theCalls) w₃ d₂ at₃ (Read memory 48) memory-bytes e₃ w₄ q₃)
+
+  -- ---- module 2 returns, and all is committed
+
+  meets₄ : Conditions (w₄ .lent) (w₄ .host) (pos 0)
+  unfolding withWeave holding paid begun begunWeave freshHost
+  meets₄ = record {
+    check-1 = at₄ .check-1;
+    running = refl;
+    unspoiled = refl;
+    zero-or-one = inl refl;
+    last = sym said-two;
+    sound = at₄ .agrees .carried;
+    fits = omega (arith, staged₂, long c);
+  }
+
+  s₄ : step w₄ (Return (pos 0)) .said ≡ Ended (Committed 1 136)
+  unfolding withWeave holding paid begun begunWeave
+  s₄ = committed-exactly w₄ (pos 0) 1 136 .1 (meets₄, (sym count₂, sym staged₂))
+
+  abbrev w₅ : World
+  w₅ = record {
+    host = committed (w₄ .host) (w₄ .host .weave .count) (w₄ .host .weave .staged);
+    lent = lentAs (zeros (length (w₄ .lent .staging))) (splice (zeros c) (w₄ .host .used) (take (w₄ .host .weave .staged) (w₄ .lent .staging))) twoModules;
+  }
+
+  q₄ : step w₄ (Return (pos 0)) .world ≡ w₅
+  unfolding step returnAnswer returnCard returnStaging finished
+  q₄ = rw (commits (w₄ .lent) (w₄ .host) (pos 0) meets₄)
+
+  abbrev d₅ : Diary
+  d₅ = record { kept = recordsOn (zeros c) 0 ++ (event ∷ []); staged = []; units = 0 }
+
+  at₅ : At l (take 5 theCalls) w₅ d₅
+  at₅ = rw s₄ at (one-more l mount-ok (take 4 theCalls) w₄ d₄ at₄ (Return (pos 0)) no-bytes (ap isRefused s₄) w₅ q₄)
+
+  -- ---- the next weave begins
+
+  e₅ : isRefused (step w₅ (Begin hundred) .said) ≡ false
+  unfolding committed withWeave freshHost freshWeave
+  e₅ = begin-exactly w₅ hundred .1 (record { check-1 = at₅ .check-1; idle = refl; healthy = refl; long = refl })
+
+  f₅ : isFine (beginCheck (w₅ .lent) (w₅ .host) hundred) ≡ true
+  unfolding step beginAnswer
+  f₅ = settle-ok (w₅ .host) _ 0 _ e₅
+
+  abbrev w₆ : World
+  w₆ = record { host = withWeave (w₅ .host) (begun hundred); lent = lentAs (zeros (length (w₅ .lent .staging))) (w₅ .lent .card) twoModules }
+
+  s₅ : step w₅ (Begin hundred) .said ≡ Answered Fine 0
+  unfolding step beginAnswer settle
+  s₅ = rw f₅
+
+  q₅ : step w₅ (Begin hundred) .world ≡ w₆
+  unfolding step beginAnswer beginStaging settle
+  q₅ = rw f₅
+
+  at₆ : At l (take 6 theCalls) w₆ d₅
+  at₆ = one-more l mount-ok (take 5 theCalls) w₅ d₅ at₅ (Begin hundred) no-bytes e₅ w₆ q₅
+
+  -- ---- a cursor is opened
+
+  may₆ : OpenMay (w₆ .lent) (w₆ .host) memory 88
+  unfolding withWeave begun begunWeave argAt leAt slotFine placeOf hasHandle noSlots freeSlot
+  may₆ = record {
+    gated = record { memory = rw long-memory (omega arith); check-1 = at₆ .check-1; running = refl; unspoiled = refl };
+    args = records-fine .1 .1 .0;
+    filter = rw open-args filter-fine;
+    desc = rw open-args (omega arith);
+    room = refl;
+    budget = omega arith;
+  }
+
+  e₆ : isRefused (step w₆ (Open memory 88) .said) ≡ false
+  e₆ = open-exactly w₆ memory 88 .1 may₆
+
+  f₆ : isFine (openCheck (w₆ .lent) (w₆ .host) memory 88) ≡ true
+  unfolding step openAnswer
+  f₆ = settle-ok (w₆ .host) _ _ _ e₆
+
+  abbrev slot₆ : Slot
+  slot₆ = opening memory (openArgs memory 88) 1
+
+  abbrev w₇ : World
+  w₇ = record { host = withWeave (w₆ .host) (openedWith (w₆ .host .weave) slot₆); lent = w₆ .lent }
+
+  s₆ : step w₆ (Open memory 88) .said ≡ Answered Fine 1
+  unfolding step openAnswer settle withWeave begun begunWeave added
+  s₆ = rw f₆
+
+  q₆ : step w₆ (Open memory 88) .world ≡ w₇
+  unfolding step openAnswer openNext settle withWeave begun begunWeave added
+  q₆ = rw f₆
+
+  abbrev d₇ : Diary
+  d₇ = record { kept = recordsOn (zeros c) 0 ++ (event ∷ []); staged = []; units = 0 + 1 }
+
+  at₇ : At l (take 7 theCalls) w₇ d₇
+  at₇ = one-more l mount-ok (take 6 theCalls) w₆ d₅ at₆ (Open memory 88) memory-bytes e₆ w₇ q₆
+
+  -- what is on the card
+  card₇ : cardRecords w₇ ≡ event ∷ []
+  unfolding records upTo
+  card₇ = at₇ .agrees .kept
+
+  -- what the cursor lists
+  abbrev cursor₆ : Cursor
+  cursor₆ = slot₆ .cursor
+
+  allowed₆ : Allowed (mayRead twoModules 1) cursor₆ event
+  unfolding prefixOf
+  allowed₆ =
+      let a = asked-by w₆ memory 88 1 e₆ in
+      record {
+        granted = rw event-topic (may-read .0);
+        begins = rw (a .filter, open-args, topic-is, event-topic);
+        from = rw (a .from, open-args, event-id) (omega arith);
+        to = rw (a .to, open-args, event-id) (omega arith);
+      }
+
+  lists : listOf (mayRead twoModules 1) cursor₆ (event ∷ []) ≡ event ∷ []
+  unfolding listOf
+  lists =
+      let a = asked-by w₆ memory 88 1 e₆ in
+      one-listed (listed (mayRead twoModules 1) cursor₆) (cursor₆ .desc) (cursor₆ .limit) event (a .desc ∙ rw open-args) (a .limit ∙ rw open-args)
+      (means-listed (mayRead twoModules 1) cursor₆ event allowed₆)
+
+  list₇ : listLeft w₇ 1 ≡ event ∷ []
+  unfolding nextList cursorOf slotOf withWeave openedWith tabled paid begun begunWeave placeOf hasHandle noSlots freeSlot opening
+  list₇ = rw card₇ lists
+
+  -- ---- the event is handed over
+
+  may₇ : NextMay (w₇ .lent) (w₇ .host) memory 136
+  unfolding withWeave openedWith tabled paid begun begunWeave argAt leAt added handleFine placeOf hasHandle noSlots freeSlot opening
+  may₇ = record {
+    gated = record { memory = rw long-memory (omega arith); check-1 = at₇ .check-1; running = refl; unspoiled = refl };
+    args = records-fine .1 .1 .1 .0;
+    out = rw next-args out-fine;
+    handle = rw next-args;
+    sound = at₇ .agrees .chained;
+    room = rw (next-args, list₇, page₃);
+    budget = rw (next-args, list₇, page₃) (omega arith);
+  }
+
+  e₇ : isRefused (step w₇ (Next memory 136) .said) ≡ false
+  e₇ = next-exactly w₇ memory 136 .1 may₇
+
+  f₇ : isFine (nextCheck (w₇ .lent) (w₇ .host) memory 136) ≡ true
+  unfolding step nextAnswer
+  f₇ = settle-ok (w₇ .host) _ _ _ e₇
+
+  abbrev cursor₈ : Cursor
+  cursor₈ = advance cursor₆ (event ∷ [])
+
+  abbrev w₈ : World
+  w₈ = record { host = withWeave (w₇ .host) (movedTo (w₇ .host .weave) 1 cursor₈ 18); lent = w₇ .lent }
+
+  page₇ : nextPage (w₇ .lent) (w₇ .host) memory 136 ≡ Sized 136
+  unfolding nextCheck
+  page₇ = next-page w₇ memory 136 (first-left (nextSound (w₇ .lent) (w₇ .host) memory 136) _ f₇) ∙ rw (next-args, list₇) page₃
+
+  cursor₇ : cursorOf (w₇ .host .weave) 1 ≡ cursor₆
+  unfolding cursorOf slotOf withWeave openedWith tabled paid begun begunWeave placeOf hasHandle noSlots freeSlot opening
+  cursor₇ = refl
+
+  fit₇ : fit 136 (event ∷ []) ≡ event ∷ []
+  unfolding fit
+  fit₇ = rw event-long
+
+  s₇ : step w₇ (Next memory 136) .said ≡ Answered Fine 136
+  unfolding step nextAnswer settle
+  s₇ = rw (f₇, page₇)
+
+  q₇ : step w₇ (Next memory 136) .world ≡ w₈
+  unfolding step nextAnswer settle nextHost nextCursor
+  q₇ = rw (f₇, page₇, next-args, list₇, cursor₇, fit₇)
+
+  abbrev d₈ : Diary
+  d₈ = record { kept = recordsOn (zeros c) 0 ++ (event ∷ []); staged = []; units = (0 + 1) + (1 + 136 / 8) }
+
+  at₈ : At l (take 8 theCalls) w₈ d₈
+  at₈ = rw s₇ at (one-more l mount-ok (take 7 theCalls) w₇ d₇ at₇ (Next memory 136) memory-bytes e₇ w₈ q₇)
+
+  -- nothing is left
+  rest₈ : listOf (mayRead twoModules 1) cursor₈ (event ∷ []) ≡ []
+  unfolding unfit
+  rest₈ = rw (lists, fit₇, event-long) at (fit-lists (mayRead twoModules 1) cursor₆ (event ∷ []) 136 (tt, tt))
+
+  cursor-8 : cursorOf (w₈ .host .weave) 1 ≡ cursor₈
+  unfolding cursorOf slotOf withWeave openedWith movedTo tabled paid begun begunWeave placeOf hasHandle noSlots freeSlot opening
+  cursor-8 = refl
+
+  list₈ : listLeft w₈ 1 ≡ []
+  unfolding nextList withWeave openedWith movedTo tabled paid begun begunWeave
+  list₈ = rw (card₇, cursor-8) rest₈
+
+  -- ---- the end is told
+
+  may₈ : NextMay (w₈ .lent) (w₈ .host) memory 136
+  unfolding withWeave openedWith movedTo tabled paid begun begunWeave argAt leAt added handleFine placeOf hasHandle noSlots freeSlot opening pageOf
+  may₈ = record {
+    gated = record { memory = rw long-memory (omega arith); check-1 = at₈ .check-1; running = refl; unspoiled = refl };
+    args = records-fine .1 .1 .1 .0;
+    out = rw next-args out-fine;
+    handle = rw next-args;
+    sound = at₈ .agrees .chained;
+    room = rw (next-args, list₈);
+    budget = rw (next-args, list₈) (omega arith);
+  }
+
+  e₈ : isRefused (step w₈ (Next memory 136) .said) ≡ false
+  e₈ = next-exactly w₈ memory 136 .1 may₈
+
+  f₈ : isFine (nextCheck (w₈ .lent) (w₈ .host) memory 136) ≡ true
+  unfolding step nextAnswer
+  f₈ = settle-ok (w₈ .host) _ _ _ e₈
+
+  page₈ : nextPage (w₈ .lent) (w₈ .host) memory 136 ≡ End
+  unfolding nextCheck pageOf
+  page₈ = next-page w₈ memory 136 (first-left (nextSound (w₈ .lent) (w₈ .host) memory 136) _ f₈) ∙ rw (next-args, list₈)
+
+  abbrev w₉ : World
+  w₉ = record { host = withWeave (w₈ .host) (movedTo (w₈ .host .weave) 1 cursor₈ 1); lent = w₈ .lent }
+
+  s₈ : step w₈ (Next memory 136) .said ≡ Answered Fine 0
+  unfolding step nextAnswer settle
+  s₈ = rw (f₈, page₈)
+
+  q₈ : step w₈ (Next memory 136) .world ≡ w₉
+  unfolding step nextAnswer settle nextHost nextCursor fit advance
+  q₈ = rw (f₈, page₈, next-args, list₈, cursor-8)
+
+  abbrev d₉ : Diary
+  d₉ = record { kept = recordsOn (zeros c) 0 ++ (event ∷ []); staged = []; units = ((0 + 1) + (1 + 136 / 8)) + (1 + 0 / 8) }
+
+  at₉ : At l (take 9 theCalls) w₉ d₉
+  at₉ = rw s₈ at (one-more l mount-ok (take 8 theCalls) w₈ d₈ at₈ (Next memory 136) memory-bytes e₈ w₉ q₈)
+
+  -- ---- the cursor is closed
+
+  may₉ : CloseMay (w₉ .lent) (w₉ .host) memory 160
+  unfolding withWeave openedWith movedTo tabled paid begun begunWeave argAt leAt added handleFine placeOf hasHandle noSlots freeSlot opening
+  may₉ = record {
+    gated = record { memory = rw long-memory (omega arith); check-1 = at₉ .check-1; running = refl; unspoiled = refl };
+    args = records-fine .1 .1 .1 .1;
+    handle = rw close-arg;
+    budget = omega arith;
+  }
+
+  e₉ : isRefused (step w₉ (Close memory 160) .said) ≡ false
+  e₉ = close-exactly w₉ memory 160 .1 may₉
+
+  f₉ : isFine (closeCheck (w₉ .lent) (w₉ .host) memory 160) ≡ true
+  unfolding step closeAnswer
+  f₉ = settle-ok (w₉ .host) _ _ _ e₉
+
+  abbrev w₁₀ : World
+  w₁₀ = record { host = withWeave (w₉ .host) (closedAt (w₉ .host .weave) 1); lent = w₉ .lent }
+
+  s₉ : step w₉ (Close memory 160) .said ≡ Answered Fine 0
+  unfolding step closeAnswer settle
+  s₉ = rw f₉
+
+  q₉ : step w₉ (Close memory 160) .world ≡ w₁₀
+  unfolding step closeAnswer closeNext settle
+  q₉ = rw (f₉, close-arg)
+
+  check₁₀ : isFine (lentCheck (w₁₀ .lent) (w₁₀ .host)) ≡ true
+  check₁₀ = one-more l mount-ok (take 9 theCalls) w₉ d₉ at₉ (Close memory 160) memory-bytes e₉ w₁₀ q₉ .check-1
+
+  -- ---- and module 1 returns
+
+  s₁₀ : step w₁₀ (Return (pos 0)) .said ≡ Ended Running
+  unfolding withWeave openedWith movedTo closedAt tabled paid begun begunWeave
+  s₁₀ =
+      running-exactly w₁₀ (pos 0) .1
+      (record { returns = record { check-1 = check₁₀; running = refl }; unspoiled = refl; zero-or-one = inl refl }, rw said-two (omega arith))
+
+  -- THE PROMISE
+  pub all-said : saidOver (mountedAs l 0) theCalls ≡ theAnswers
+  all-said =
+      rw (mount-host, s₀, q₀, s₁, q₁, s₂, turn-passes w₂ (pos 0) s₂, s₃, q₃, s₄, q₄, s₅, q₅, s₆, q₆, s₇, q₇, s₈, q₈, s₉, q₉, s₁₀)

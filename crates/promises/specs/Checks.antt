@@ -1,0 +1,189 @@
+-- 01, "Order of checks": of each call, what is asked, one after the other, and the code that is given where it fails. "No code is given in any other case."
+-- Assumes nothing.
+use mathlib.Core.Path.{_≡_}
+use mathlib.Core.Bool.{Bool, true, false, not, _||_, cond}
+use mathlib.Core.List.{List, [], _∷_, _++_}
+use Prim.Native.Nat.{ℕ, _+_, _^_}
+use lib.Dec.{leb, eqb}
+use lib.ListN.{length}
+use Rattle.text.specs.Topic.{goodTopic}
+use Rattle.text.specs.Flags.{goodFlags}
+use Rattle.value.specs.declared.Fault.{Fault}
+use Rattle.value.specs.declared.Fault.the-variants.{Fine as NoFault, Outside, Unfit}
+use Rattle.manifest.specs.Saying.{isGood, modulesSaid, manifestOf, mayRead, mayWrite}
+use Rattle.card.specs.Walk.{chainTo}
+use Rattle.card.specs.Listing.{fit, pageOf}
+use Rattle.card.specs.Records.{size}
+use Rattle.card.specs.declared.Page.{Page}
+use Rattle.weave.specs.declared.Code.{Code}
+use Rattle.weave.specs.declared.Code.the-variants.{Fine, Denied, NotNow, Unsound, NoRoom, Bad, Budget, BadValue}
+use Rattle.weave.specs.declared.Spoiled.{Spoiled}
+use Rattle.weave.specs.declared.Spoiled.the-variants.{Not, Overspent, Panicked}
+use Rattle.weave.specs.Codes.{isFine}
+use Rattle.weave.specs.Sums.{added}
+use Rattle.weave.specs.Args.{recordFine, writeArgs, readArgs, openArgs, nextArgs, closeHandle, topicFine, filterFine, outFine, payloadFine}
+use Rattle.weave.specs.Checks.{lentFine, handleFine, slotFine}
+use Rattle.takes.specs.Payloads.{payloadChecked}
+use Rattle.takes.specs.Pages.{pageCode, pageCharge}
+use Rattle.host.specs.Hosts.{lengthsOf}
+use Rattle.host.specs.Stage.{roomFine, isPanic, writtenTopic, dataLen, writeCharge}
+use Rattle.host.specs.Reading.{readTopic, readList}
+use Rattle.host.specs.Paging.{nextList}
+use Rattle.promises.specs.Box.{World, cardChained, stagedPart, Op, Begin, Ingress, Write, Read, Open, Next, Close, Return, LookUp}
+
+pub record Check : Type 0 where
+  pub asks : Bool
+  pub code : Code
+
+abbrev pub check : Bool → Code → Check
+check asks′ code′ = record { asks = asks′; code = code′ }
+
+abbrev pub Passed : Check → Type 0
+Passed c = c .asks ≡ true
+
+-- the code of the first that fails; Fine where none does
+abbrev pub failing : List Check → Code
+failing [] = Fine
+failing (c ∷ cs) = cond (c .asks) (failing cs) (c .code)
+
+-- ---- what several calls ask
+
+abbrev pub isOverspent : Spoiled → Bool
+isOverspent Not = false
+isOverspent Overspent = true
+isOverspent Panicked = false
+
+abbrev pub isPanicked : Spoiled → Bool
+isPanicked Not = false
+isPanicked Overspent = false
+isPanicked Panicked = true
+
+abbrev pub isOutside : Fault → Bool
+isOutside NoFault = false
+isOutside Outside = true
+isOutside Unfit = false
+
+abbrev pub isUnfit : Fault → Bool
+isUnfit NoFault = false
+isUnfit Outside = false
+isUnfit Unfit = true
+
+-- (1), but for the memory
+abbrev pub lentAsked : World → Check
+lentAsked w =
+    check
+    (lentFine (w .host .lengths) (lengthsOf (w .lent)) (isGood (manifestOf (w .lent .text))) (modulesSaid (manifestOf (w .lent .text))) (w .host .used)
+    (w .host .next .0) (w .host .weave))
+    Bad
+
+-- (1) to (3) of a module call with the memory m
+abbrev pub gate : World → List ℕ → List Check
+gate w m =
+    check (leb (length m) 1048576) Bad
+    ∷ lentAsked w
+    ∷ check (w .host .weave .running) NotNow
+    ∷ check (not (isOverspent (w .host .weave .spoiled .0))) Budget
+    ∷ check (not (isPanicked (w .host .weave .spoiled .0))) Denied
+    ∷ []
+
+-- (9), (10): a page that was found
+abbrev pub paged : World → Page → List Check
+paged w p = check (isFine (pageCode p)) NoRoom ∷ check (leb (w .host .weave .units + pageCharge p) (w .host .weave .resmax)) Budget ∷ []
+
+-- (10): a call that costs 1
+abbrev oneUnit : World → Check
+oneUnit w = check (leb (w .host .weave .units + 1) (w .host .weave .resmax)) Budget
+
+-- ---- each call
+
+abbrev pub writeAsks : World → List ℕ → ℕ → List Check
+writeAsks w m a =
+    check (recordFine m a 40) Bad  -- (4)
+    ∷ check (topicFine m (writeArgs m a .topic)) Bad  -- (5)
+    ∷ check (goodFlags (writeArgs m a .flags)) Bad  -- (6): "flags come first"
+    ∷ check (payloadFine m (writeArgs m a)) Bad
+    ∷ check (mayWrite (w .lent .text) (w .host .weave .turn) (writtenTopic m a)) Denied  -- (7)
+    ∷ check (not (isOutside (payloadChecked m (writeArgs m a) .fault))) Bad  -- (8)
+    ∷ check (not (isUnfit (payloadChecked m (writeArgs m a) .fault))) BadValue
+    -- a panic counts "once through check 8"
+    ∷ check (isPanic m a || roomFine (w .host) (writeArgs m a .topic .len) (dataLen m a) (length (w .lent .staging))) NoRoom  -- (9)
+    ∷ check (isPanic m a || leb (w .host .weave .units + writeCharge (writeArgs m a .topic .len) (dataLen m a)) (w .host .weave .resmax)) Budget  -- (10)
+    ∷ []
+
+abbrev pub readFirst : World → List ℕ → ℕ → List Check
+readFirst w m a =
+    check (recordFine m a 40) Bad  -- (4)
+    ∷ check (topicFine m (readArgs m a .topic)) Bad  -- (5)
+    ∷ check (outFine m (readArgs m a .out)) Bad  -- (6)
+    ∷ check (mayRead (w .lent .text) (w .host .weave .turn) (readTopic m a)) Denied  -- (7)
+    ∷ check (chainTo (stagedPart (w .lent) (w .host)) (w .host .next .0) (added (w .host .next .0) (w .host .weave .count) (2 ^ 63))) Unsound  -- (9)
+    ∷ []
+
+abbrev pub readAsks : World → List ℕ → ℕ → List Check
+readAsks w m a = readFirst w m a ++ paged w (pageOf (readArgs m a .out .len) (readList (w .lent) (w .host) m a))
+
+abbrev pub openAsks : World → List ℕ → ℕ → List Check
+openAsks w m a =
+    check (recordFine m a 48) Bad  -- (4)
+    ∷ check (filterFine m (openArgs m a .topic)) Bad  -- (5)
+    ∷ check (leb (openArgs m a .desc) 1) Bad  -- (6)
+    ∷ check (slotFine (w .host .weave)) NoRoom  -- (9)
+    ∷ oneUnit w  -- (10)
+    ∷ []
+
+abbrev pub nextFirst : World → List ℕ → ℕ → List Check
+nextFirst w m a =
+    check (recordFine m a 24) Bad  -- (4)
+    ∷ check (outFine m (nextArgs m a .out)) Bad  -- (6)
+    ∷ check (handleFine (w .host .weave) (nextArgs m a .handle)) NotNow  -- (9)
+    ∷ check (cardChained (w .lent) (w .host)) Unsound
+    ∷ []
+
+abbrev pub nextAsks : World → List ℕ → ℕ → List Check
+nextAsks w m a = nextFirst w m a ++ paged w (pageOf (nextArgs m a .out .len) (nextList (w .lent) (w .host) (nextArgs m a .handle)))
+
+abbrev pub closeAsks : World → List ℕ → ℕ → List Check
+closeAsks w m a =
+    check (recordFine m a 8) Bad  -- (4)
+    ∷ check (handleFine (w .host .weave) (closeHandle m a)) NotNow  -- (9)
+    ∷ oneUnit w  -- (10)
+    ∷ []
+
+abbrev pub checksOf : World → Op → List Check
+checksOf w (Begin args) =
+    lentAsked w  -- (1)
+    ∷ check (not (w .host .weave .running)) NotNow  -- (2)
+    ∷ check (not (w .host .faulted)) Denied  -- (3)
+    ∷ check (eqb (length args) 128) Bad  -- (4)
+    ∷ []
+checksOf w (Ingress topic payload) =
+    lentAsked w  -- (1)
+    ∷ check (w .host .weave .running) NotNow  -- (2)
+    ∷ check (not (w .host .weave .late)) NotNow
+    ∷ check (goodTopic topic) Bad  -- (5)
+    ∷ check (roomFine (w .host) (length topic) (length payload) (length (w .lent .staging))) NoRoom  -- (9)
+    ∷ []
+checksOf w (Write m a) = gate w m ++ writeAsks w m a
+checksOf w (Read m a) = gate w m ++ readAsks w m a
+checksOf w (Open m a) = gate w m ++ openAsks w m a
+checksOf w (Next m a) = gate w m ++ nextAsks w m a
+checksOf w (Close m a) = gate w m ++ closeAsks w m a
+-- "Return has checks 1 and 2 only; look-up has check 1 only", and gives no code
+checksOf w (Return code) = lentAsked w ∷ check (w .host .weave .running) NotNow ∷ []
+checksOf w (LookUp id) = []
+
+-- ---- what an accepted call answers
+
+abbrev pub answers : World → Op → ℕ
+answers w (Begin args) = 0
+answers w (Ingress topic payload) = 0
+answers w (Write m a) = 0
+-- "Answers the bytes written, 0 when none is left"
+answers w (Read m a) = size (fit (readArgs m a .out .len) (readList (w .lent) (w .host) m a))
+-- "handle numbers 1, 2, 3 .. within the weave"
+answers w (Open m a) = w .host .weave .opened + 1
+answers w (Next m a) = size (fit (nextArgs m a .out .len) (nextList (w .lent) (w .host) (nextArgs m a .handle)))
+answers w (Close m a) = 0
+-- a return answers its fate, and a look-up the part that it shows
+answers w (Return code) = 0
+answers w (LookUp id) = 0
