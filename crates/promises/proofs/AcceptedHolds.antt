@@ -21,9 +21,9 @@ use Rattle.takes.specs.Pages.{pageCharge}
 use Rattle.takes.specs.Payloads.{payloadChecked}
 use Rattle.host.specs.declared.Host.{Host}
 use Rattle.host.specs.Hosts.{Lent, lentCheck}
-use Rattle.host.specs.Stage.{isPanic, dataLen, writeCharge}
-use Rattle.host.specs.Paging.{nextSound, nextList, nextPage}
-use Rattle.host.specs.Reading.{readSound, readList, readPage}
+use Rattle.writes.specs.Stage.{isPanic, dataLen, writeCharge}
+use Rattle.reads.specs.Paging.{nextSound, nextList, nextPage}
+use Rattle.reads.specs.Reading.{readSound, readList, readPage}
 use Rattle.promises.specs.Box.{World, Begin, Ingress, Write, Read, Open, Next, Close, step, isRefused}
 use Rattle.promises.specs.Checks.{Check, Passed, check, isOverspent, isPanicked, isOutside, isUnfit, lentAsked, gate, writeAsks, readAsks, openAsks, nextAsks, closeAsks}
 use Rattle.promises.specs.Accepted.{BeginMay, IngressMay, Gated, WriteMay, ReadMay, OpenMay, NextMay, CloseMay}

@@ -16,7 +16,7 @@ use Rattle.weave.specs.Codes.{isFine}
 use Rattle.weave.specs.Checks.{sameLengths, numbersFine, turnFine, lentFine}
 use Rattle.weave.proofs.CodeLaws.{need-test}
 use Rattle.host.specs.declared.Host.{Host}
-use Rattle.host.specs.Hosts.{Lent, lengthsOf, lentCheck, refused, settle}
+use Rattle.host.specs.Hosts.{Lent, lengthsOf, lentCheck, turnedAway, settle}
 
 -- check 1, taken apart
 pub record Lawful (l : Lent) (h : Host) : Type 0 where
@@ -66,9 +66,9 @@ turn-16 l h a r = omega (arith, a .turn-most r, sized (l .text) .most)
 -- ---- what was not refused was found no fault with
 
 pub settle-ok : (h : Host) (c : Code) (v : ℕ) (next : Host) → not (isFine (settle h c v next .code)) ≡ false → isFine c ≡ true
-unfolding settle refused
+unfolding settle turnedAway
 settle-ok h c v next e = go (isFine c) refl e
   where
-    go : (t : Bool) → isFine c ≡ t → not (isFine ((cond t (record { code = Fine; value = v; host = next }) (refused h c)) .code)) ≡ false → isFine c ≡ true
+    go : (t : Bool) → isFine c ≡ t → not (isFine ((cond t (record { code = Fine; value = v; host = next }) (turnedAway h c)) .code)) ≡ false → isFine c ≡ true
     go true q e = q
     go false q e = absurd (true≢false (sym (ap not q) ∙ e))

@@ -14,10 +14,10 @@ use Rattle.takes.specs.Pages.{pageBytes}
 use Rattle.host.specs.declared.Host.{Host}
 use Rattle.host.specs.Hosts.{settle}
 use Rattle.host.specs.Begin.{beginAnswer}
-use Rattle.host.specs.Stage.{ingressAnswer, writeAnswer}
-use Rattle.host.specs.Reading.{readSound, readCheck, readAnswer}
+use Rattle.writes.specs.Stage.{ingressAnswer, writeAnswer}
+use Rattle.reads.specs.Reading.{readSound, readCheck, readAnswer}
 use Rattle.host.specs.Cursors.{openAnswer, closeAnswer}
-use Rattle.host.specs.Paging.{nextSound, nextCheck, nextAnswer}
+use Rattle.reads.specs.Paging.{nextSound, nextCheck, nextAnswer}
 use Rattle.promises.specs.Box.{World, Op, Begin, Ingress, Write, Read, Open, Next, Close, Return, LookUp, step, isRefused}
 use Rattle.promises.specs.Checks.{answers}
 use Rattle.promises.specs.Diary.{answerOf}

@@ -27,8 +27,8 @@ use Rattle.weave.specs.Args.{openArgs, filterFine, filterBytes}
 use Rattle.takes.specs.Opening.{opening}
 use Rattle.takes.specs.Payloads.{faultCode}
 use Rattle.host.specs.declared.Fate.the-variants.{Refused, Discarded, Running, Committed}
-use Rattle.host.specs.Hosts.{refused, settle}
-use Rattle.host.specs.Stage.{isPanic, panicked, written, writeCheck, writeAnswer, writeStaging}
+use Rattle.host.specs.Hosts.{turnedAway, settle}
+use Rattle.writes.specs.Stage.{isPanic, panicked, written, writeCheck, writeAnswer, writeStaging}
 use Rattle.promises.specs.Box.{World, Write, Open, Said, Answered, Ended, Part, step, isRefused, codeOf, saidNumber}
 use Rattle.promises.specs.Outcome.{PanicLeft}
 use Rattle.promises.specs.Turn.{AskedBy}
@@ -59,7 +59,7 @@ asked-by w m a k e =
 -- ---- a panic
 
 pub panic-left : (w : World) (m : List ℕ) (a : ℕ) → isRefused (step w (Write m a) .said) ≡ false → isPanic m a ≡ true → PanicLeft w (step w (Write m a))
-unfolding step writeAnswer writeStaging settle refused written panicked paid spoilt
+unfolding step writeAnswer writeStaging settle turnedAway written panicked paid spoilt
 panic-left w m a e p =
     let c = settle-ok (w .host) (writeCheck (w .lent) (w .host) m a) 0 _ e in
     record {

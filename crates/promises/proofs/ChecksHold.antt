@@ -26,12 +26,12 @@ use Rattle.takes.specs.Pages.{pageCode, pageCharge}
 use Rattle.takes.specs.Payloads.{payloadChecked, faultCode}
 use Rattle.host.specs.declared.Host.{Host}
 use Rattle.host.specs.declared.Answer.{Answer}
-use Rattle.host.specs.Hosts.{Lent, lentCheck, gateCheck, refused, settle}
+use Rattle.host.specs.Hosts.{Lent, lentCheck, gateCheck, turnedAway, settle}
 use Rattle.host.specs.Begin.{beginCheck, beginAnswer}
-use Rattle.host.specs.Stage.{roomFine, writeCharge, ingressChecks, ingressCheck, ingressAnswer, isPanic, dataLen, stageCheck, writeChecks, writeCheck, writeAnswer}
-use Rattle.host.specs.Reading.{readChecks, readSound, readPage, readCheck, readAnswer}
+use Rattle.writes.specs.Stage.{roomFine, writeCharge, ingressChecks, ingressCheck, ingressAnswer, isPanic, dataLen, stageCheck, writeChecks, writeCheck, writeAnswer}
+use Rattle.reads.specs.Reading.{readChecks, readSound, readPage, readCheck, readAnswer}
 use Rattle.host.specs.Cursors.{openCheck, openAnswer, closeCheck, closeAnswer}
-use Rattle.host.specs.Paging.{nextChecks, nextSound, nextPage, nextCheck, nextAnswer}
+use Rattle.reads.specs.Paging.{nextChecks, nextSound, nextPage, nextCheck, nextAnswer}
 use Rattle.host.specs.Ending.{returnCheck, returnAnswer}
 use Rattle.promises.specs.Box.{World, Op, Begin, Ingress, Write, Read, Open, Next, Close, Return, LookUp, step, isRefused, codeOf}
 use Rattle.promises.specs.Checks.{Check, Passed, isOverspent, isPanicked, isOutside, isUnfit, check, failing, lentAsked, gate, paged, writeAsks, readFirst, openAsks, nextFirst, closeAsks, checksOf}
@@ -189,10 +189,10 @@ module _ (w : World) where
 -- ---- what is said
 
 settle-code : (h : Host) (c : Code) (v : ℕ) (next : Host) → settle h c v next .code ≡ c
-unfolding settle refused
+unfolding settle turnedAway
 settle-code h c v next = go (isFine c) refl
   where
-    go : (t : Bool) → isFine c ≡ t → (cond {A = Answer} t (record { code = Fine; value = v; host = next }) (refused h c)) .code ≡ c
+    go : (t : Bool) → isFine c ≡ t → (cond {A = Answer} t (record { code = Fine; value = v; host = next }) (turnedAway h c)) .code ≡ c
     go true q = sym (fine-is c q)
     go false q = refl
 

@@ -33,8 +33,9 @@ use Rattle.host.specs.declared.Host.{Host}
 use Rattle.host.specs.declared.Fate.the-variants.{Committed}
 use Rattle.host.specs.Hosts.{Lent, lentAs, lengthsOf, withWeave, lentCheck, settle}
 use Rattle.host.specs.Begin.{beginCheck, beginAnswer, beginStaging}
-use Rattle.host.specs.Stage.{roomFine, ingressChecks, ingressCheck, ingressAnswer, ingressStaging}
-use Rattle.host.specs.Mount.{freshHost, sizesFine, mountCheck, mountedBy, mounted}
+use Rattle.writes.specs.Stage.{roomFine, ingressChecks, ingressCheck, ingressAnswer, ingressStaging}
+use Rattle.host.specs.Hosts.{freshHost}
+use Rattle.mounts.specs.Mount.{sizesFine, mountCheck, mountedBy, mounted}
 use Rattle.promises.specs.Box.{World, Op, Begin, Ingress, Return, Ended, step, mountedAs, run}
 use Rattle.promises.specs.Outcome.{Conditions}
 use Rattle.promises.specs.Diary.{diary, firstPage, Agrees}

@@ -8,18 +8,21 @@ use denote.Triple.Clauses.{AtExit}
 use contract.Lifetimes.{Lfts}
 use borrow.Fn.Kinds.{Dens, resT, endedOf}
 use Rattle.host.proofs as host
+use Rattle.mounts.proofs as mounts
+use Rattle.writes.proofs as writes
+use Rattle.reads.proofs as reads
 use Rattle.host.specs.Hosts.{lentAs}
-use Rattle.host.specs.Mount.{mounted}
+use Rattle.mounts.specs.Mount.{mounted}
 use Rattle.promises.specs.Box.{Begin, Ingress, Write, Read, Open, Next, Close, Return, LookUp, Answered, Ended, Part, step, mountedAs}
 
 -- ---- mount
 
-module _ (κs : Lfts 3) (a : Dens κs host.Host.mount.Kinds.ps) where
-  pub mount-says : (r : resT host.Host.mount.Kinds.r κs .Denot) (s : AtExit (endedOf 3 host.Host.mount.Kinds.ps host.Host.mount.Kinds.r) κs) → host.Host.mount.Reads.Learnt κs a r s
+module _ (κs : Lfts 3) (a : Dens κs mounts.mount.mount.Kinds.ps) where
+  pub mount-says : (r : resT mounts.mount.mount.Kinds.r κs .Denot) (s : AtExit (endedOf 3 mounts.mount.mount.Kinds.ps mounts.mount.mount.Kinds.r) κs) → mounts.mount.mount.Reads.Learnt κs a r s
       → mounted (lentAs (now (a .0)) (now (a .1 .0)) (now (a .1 .1 .0))) (a .1 .1 .1 .0) ≡ r
   mount-says r s p = sym p
 
-  pub mount-starts : (r : resT host.Host.mount.Kinds.r κs .Denot) (s : AtExit (endedOf 3 host.Host.mount.Kinds.ps host.Host.mount.Kinds.r) κs) → host.Host.mount.Reads.Learnt κs a r s
+  pub mount-starts : (r : resT mounts.mount.mount.Kinds.r κs .Denot) (s : AtExit (endedOf 3 mounts.mount.mount.Kinds.ps mounts.mount.mount.Kinds.r) κs) → mounts.mount.mount.Reads.Learnt κs a r s
       → mountedAs (lentAs (now (a .0)) (now (a .1 .0)) (now (a .1 .1 .0))) (a .1 .1 .1 .0)
       ≡ record { host = r .host; lent = lentAs (now (a .0)) (now (a .1 .0)) (now (a .1 .1 .0)) }
   mount-starts r s p = rw p
@@ -39,8 +42,8 @@ module _ (κs : Lfts 4) (a : Dens κs host.Host.begin.Kinds.ps) where
 
 -- ---- ingress
 
-module _ (κs : Lfts 5) (a : Dens κs host.Host.ingress.Kinds.ps) where
-  pub ingress-steps : (r : resT host.Host.ingress.Kinds.r κs .Denot) (s : AtExit (endedOf 5 host.Host.ingress.Kinds.ps host.Host.ingress.Kinds.r) κs) → host.Host.ingress.Reads.Learnt κs a r s
+module _ (κs : Lfts 5) (a : Dens κs writes.stage.ingress.Kinds.ps) where
+  pub ingress-steps : (r : resT writes.stage.ingress.Kinds.r κs .Denot) (s : AtExit (endedOf 5 writes.stage.ingress.Kinds.ps writes.stage.ingress.Kinds.r) κs) → writes.stage.ingress.Reads.Learnt κs a r s
       → step (record { host = a .0; lent = lentAs (now (a .1 .0)) (now (a .1 .1 .0)) (now (a .1 .1 .1 .0)) }) (Ingress (now (a .1 .1 .1 .1 .0)) (now (a .1 .1 .1 .1 .1 .0)))
       ≡ record {
         said = Answered (r .code) (r .value);
@@ -52,8 +55,8 @@ module _ (κs : Lfts 5) (a : Dens κs host.Host.ingress.Kinds.ps) where
 
 -- ---- write
 
-module _ (κs : Lfts 4) (a : Dens κs host.Host.write.Kinds.ps) where
-  pub write-steps : (r : resT host.Host.write.Kinds.r κs .Denot) (s : AtExit (endedOf 4 host.Host.write.Kinds.ps host.Host.write.Kinds.r) κs) → host.Host.write.Reads.Learnt κs a r s
+module _ (κs : Lfts 4) (a : Dens κs writes.write.write.Kinds.ps) where
+  pub write-steps : (r : resT writes.write.write.Kinds.r κs .Denot) (s : AtExit (endedOf 4 writes.write.write.Kinds.ps writes.write.write.Kinds.r) κs) → writes.write.write.Reads.Learnt κs a r s
       → step (record { host = a .0; lent = lentAs (now (a .1 .1 .0)) (now (a .1 .1 .1 .0)) (now (a .1 .1 .1 .1 .0)) }) (Write (now (a .1 .0)) (a .1 .1 .1 .1 .1 .0))
       ≡ record {
         said = Answered (r .code) (r .value);
@@ -65,8 +68,8 @@ module _ (κs : Lfts 4) (a : Dens κs host.Host.write.Kinds.ps) where
 
 -- ---- read
 
-module _ (κs : Lfts 4) (a : Dens κs host.Host.read.Kinds.ps) where
-  pub read-steps : (r : resT host.Host.read.Kinds.r κs .Denot) (s : AtExit (endedOf 4 host.Host.read.Kinds.ps host.Host.read.Kinds.r) κs) → host.Host.read.Reads.Learnt κs a r s
+module _ (κs : Lfts 4) (a : Dens κs reads.read.read.Kinds.ps) where
+  pub read-steps : (r : resT reads.read.read.Kinds.r κs .Denot) (s : AtExit (endedOf 4 reads.read.read.Kinds.ps reads.read.read.Kinds.r) κs) → reads.read.read.Reads.Learnt κs a r s
       → step (record { host = a .0; lent = lentAs (now (a .1 .1 .0)) (now (a .1 .1 .1 .0)) (now (a .1 .1 .1 .1 .0)) }) (Read (now (a .1 .0)) (a .1 .1 .1 .1 .1 .0))
       ≡ record {
         said = Answered (r .code) (r .value);
@@ -91,8 +94,8 @@ module _ (κs : Lfts 4) (a : Dens κs host.Host.open.Kinds.ps) where
 
 -- ---- tl_next
 
-module _ (κs : Lfts 4) (a : Dens κs host.Host.next.Kinds.ps) where
-  pub next-steps : (r : resT host.Host.next.Kinds.r κs .Denot) (s : AtExit (endedOf 4 host.Host.next.Kinds.ps host.Host.next.Kinds.r) κs) → host.Host.next.Reads.Learnt κs a r s
+module _ (κs : Lfts 4) (a : Dens κs reads.next.next.Kinds.ps) where
+  pub next-steps : (r : resT reads.next.next.Kinds.r κs .Denot) (s : AtExit (endedOf 4 reads.next.next.Kinds.ps reads.next.next.Kinds.r) κs) → reads.next.next.Reads.Learnt κs a r s
       → step (record { host = a .0; lent = lentAs (now (a .1 .1 .0)) (now (a .1 .1 .1 .0)) (now (a .1 .1 .1 .1 .0)) }) (Next (now (a .1 .0)) (a .1 .1 .1 .1 .1 .0))
       ≡ record {
         said = Answered (r .code) (r .value);
@@ -130,8 +133,8 @@ module _ (κs : Lfts 3) (a : Dens κs host.Host.module_return.Kinds.ps) where
 
 -- ---- look-up: of the part that it shows, the bytes
 
-module _ (κs : Lfts 2) (a : Dens κs host.Host.look_up.Kinds.ps) where
-  pub look-up-steps : (r : resT host.Host.look_up.Kinds.r κs .Denot) (s : AtExit (endedOf 2 host.Host.look_up.Kinds.ps host.Host.look_up.Kinds.r) κs) → host.Host.look_up.Reads.Learnt κs a r s
+module _ (κs : Lfts 2) (a : Dens κs mounts.look.look_up.Kinds.ps) where
+  pub look-up-steps : (r : resT mounts.look.look_up.Kinds.r κs .Denot) (s : AtExit (endedOf 2 mounts.look.look_up.Kinds.ps mounts.look.look_up.Kinds.r) κs) → mounts.look.look_up.Reads.Learnt κs a r s
       → step (record { host = a .0; lent = lentAs (now (a .1 .0)) (now (a .1 .1 .0)) (now (a .1 .1 .1 .0)) }) (LookUp (a .1 .1 .1 .1 .0 .0)) .said ≡ Part (now r)
   unfolding step
   look-up-steps r s p = ap Part (sym p)

@@ -17,6 +17,9 @@ use Rattle.card.proofs as card
 use Rattle.weave.proofs as weave
 use Rattle.takes.proofs as takes
 use Rattle.host.proofs as host
+use Rattle.mounts.proofs as mounts
+use Rattle.writes.proofs as writes
+use Rattle.reads.proofs as reads
 
 -- two results
 abbrev ResultOnce : {n : ℕ} (ps : List (PK n)) (r : RK n) → Out n ps r → Type 0
@@ -73,6 +76,7 @@ pub record TextOnce : Type 0 where
   pub decimal-put-number : ResultOnce text.decimal.put_number.Kinds.ps text.decimal.put_number.Kinds.r text.decimal.put_number.Reads.Learnt
   pub decimal-put-number-out : SeenOnce text.decimal.put_number.Kinds.ps text.decimal.put_number.Kinds.r text.decimal.put_number.Reads.Learnt (λ κs z s. now (s .0))
   pub flags-good-flags : ResultOnce text.flags.good_flags.Kinds.ps text.flags.good_flags.Kinds.r text.flags.good_flags.Reads.Learnt
+  pub flags-is-value : ResultOnce text.flags.is_value.Kinds.ps text.flags.is_value.Kinds.r text.flags.is_value.Reads.Learnt
   pub lines-find : ResultOnce text.lines.find.Kinds.ps text.lines.find.Kinds.r text.lines.find.Reads.Learnt
   pub lines-line : SeenOnce text.lines.line.Kinds.ps text.lines.line.Kinds.r text.lines.line.Reads.Learnt (λ κs z s. now z)
   pub lines-closed : ResultOnce text.lines.closed.Kinds.ps text.lines.closed.Kinds.r text.lines.closed.Reads.Learnt
@@ -135,7 +139,7 @@ pub record CardOnce : Type 0 where
   pub listing-lists : ResultOnce card.listing.lists.Kinds.ps card.listing.lists.Kinds.r card.listing.lists.Reads.Learnt
   pub pages-measure : ResultOnce card.pages.measure.Kinds.ps card.pages.measure.Kinds.r card.pages.measure.Reads.Learnt
   pub pages-copy-page : ResultOnce card.pages.copy_page.Kinds.ps card.pages.copy_page.Kinds.r card.pages.copy_page.Reads.Learnt
-  pub pages-copy-page-memory : SeenOnce card.pages.copy_page.Kinds.ps card.pages.copy_page.Kinds.r card.pages.copy_page.Reads.Learnt (λ κs z s. now (s .1 .1 .1 .1 .1 .1 .1 .0))
+  pub pages-copy-page-memory : SeenOnce card.pages.copy_page.Kinds.ps card.pages.copy_page.Kinds.r card.pages.copy_page.Reads.Learnt (λ κs z s. now (s .1 .1 .1 .1 .0))
   pub walk-head-len : ResultOnce card.walk.head_len.Kinds.ps card.walk.head_len.Kinds.r card.walk.head_len.Reads.Learnt
   pub walk-check-chain : ResultOnce card.walk.check_chain.Kinds.ps card.walk.check_chain.Kinds.r card.walk.check_chain.Reads.Learnt
   pub walk-chain-to : ResultOnce card.walk.chain_to.Kinds.ps card.walk.chain_to.Kinds.r card.walk.chain_to.Reads.Learnt
@@ -151,7 +155,7 @@ card-once = search met
 
 pub record WeaveOnce : Type 0 where
   pub args-record-fine : ResultOnce weave.args.record_fine.Kinds.ps weave.args.record_fine.Kinds.r weave.args.record_fine.Reads.Learnt
-  pub args-close-handle : ResultOnce weave.args.close_handle.Kinds.ps weave.args.close_handle.Kinds.r weave.args.close_handle.Reads.Learnt
+  pub args-closeargs-handle : ResultOnce weave.args.CloseArgs.handle.Kinds.ps weave.args.CloseArgs.handle.Kinds.r weave.args.CloseArgs.handle.Reads.Learnt
   pub args-bytes-at : SeenOnce weave.args.bytes_at.Kinds.ps weave.args.bytes_at.Kinds.r weave.args.bytes_at.Reads.Learnt (λ κs z s. now z)
   pub args-topic-fine : ResultOnce weave.args.topic_fine.Kinds.ps weave.args.topic_fine.Kinds.r weave.args.topic_fine.Reads.Learnt
   pub args-filter-fine : ResultOnce weave.args.filter_fine.Kinds.ps weave.args.filter_fine.Kinds.r weave.args.filter_fine.Reads.Learnt
@@ -210,7 +214,7 @@ pub record TakesOnce : Type 0 where
   pub page-page-bytes : ResultOnce takes.page.page_bytes.Kinds.ps takes.page.page_bytes.Kinds.r takes.page.page_bytes.Reads.Learnt
   pub page-find-page : ResultOnce takes.page.find_page.Kinds.ps takes.page.find_page.Kinds.r takes.page.find_page.Reads.Learnt
   pub page-hand-over : ResultOnce takes.page.hand_over.Kinds.ps takes.page.hand_over.Kinds.r takes.page.hand_over.Reads.Learnt
-  pub page-hand-over-memory : SeenOnce takes.page.hand_over.Kinds.ps takes.page.hand_over.Kinds.r takes.page.hand_over.Reads.Learnt (λ κs z s. now (s .1 .1 .1 .1 .1 .1 .1 .1 .0))
+  pub page-hand-over-memory : SeenOnce takes.page.hand_over.Kinds.ps takes.page.hand_over.Kinds.r takes.page.hand_over.Reads.Learnt (λ κs z s. now (s .1 .1 .1 .1 .1 .0))
   pub page-kept-topic : ResultOnce takes.page.kept_topic.Kinds.ps takes.page.kept_topic.Kinds.r takes.page.kept_topic.Reads.Learnt
   pub stage-fault-code : ResultOnce takes.stage.fault_code.Kinds.ps takes.stage.fault_code.Kinds.r takes.stage.fault_code.Reads.Learnt
   pub stage-payload-checked : ResultOnce takes.stage.payload_checked.Kinds.ps takes.stage.payload_checked.Kinds.r takes.stage.payload_checked.Reads.Learnt
@@ -231,27 +235,41 @@ pub record HostOnce : Type 0 where
   pub module-return-card : SeenOnce host.Host.module_return.Kinds.ps host.Host.module_return.Kinds.r host.Host.module_return.Reads.Learnt (λ κs z s. now (s .1 .1 .0))
   pub module-return-staging : SeenOnce host.Host.module_return.Kinds.ps host.Host.module_return.Kinds.r host.Host.module_return.Reads.Learnt (λ κs z s. now (s .1 .0))
   pub fresh : ResultOnce host.Host.fresh.Kinds.ps host.Host.fresh.Kinds.r host.Host.fresh.Reads.Learnt
-  pub mount : ResultOnce host.Host.mount.Kinds.ps host.Host.mount.Kinds.r host.Host.mount.Reads.Learnt
-  pub look-up : SeenOnce host.Host.look_up.Kinds.ps host.Host.look_up.Kinds.r host.Host.look_up.Reads.Learnt (λ κs z s. now z)
+  pub none : ResultOnce host.Host.none.Kinds.ps host.Host.none.Kinds.r host.Host.none.Reads.Learnt
+  pub lengths-of : ResultOnce host.state.lengths_of.Kinds.ps host.state.lengths_of.Kinds.r host.state.lengths_of.Reads.Learnt
+  pub with-weave : ResultOnce host.Host.with_weave.Kinds.ps host.Host.with_weave.Kinds.r host.Host.with_weave.Reads.Learnt
+  pub enter : ResultOnce host.Host.enter.Kinds.ps host.Host.enter.Kinds.r host.Host.enter.Reads.Learnt
+  pub admit : ResultOnce host.Host.admit.Kinds.ps host.Host.admit.Kinds.r host.Host.admit.Reads.Learnt
+  pub settle : ResultOnce host.Host.settle.Kinds.ps host.Host.settle.Kinds.r host.Host.settle.Reads.Learnt
   pub fate-number : ResultOnce host.Fate.number.Kinds.ps host.Fate.number.Kinds.r host.Fate.number.Reads.Learnt
   pub fate-events : ResultOnce host.Fate.events.Kinds.ps host.Fate.events.Kinds.r host.Fate.events.Reads.Learnt
-  pub fate-kept : ResultOnce host.Fate.kept.Kinds.ps host.Fate.kept.Kinds.r host.Fate.kept.Reads.Learnt
+  pub fate-bytes : ResultOnce host.Fate.bytes.Kinds.ps host.Fate.bytes.Kinds.r host.Fate.bytes.Reads.Learnt
   pub fate-ends : ResultOnce host.Fate.ends.Kinds.ps host.Fate.ends.Kinds.r host.Fate.ends.Reads.Learnt
 
 pub host-once : HostOnce
 host-once = search met
 
+-- ---- mount and look-up
+
+pub record MountsOnce : Type 0 where
+  pub mount : ResultOnce mounts.mount.mount.Kinds.ps mounts.mount.mount.Kinds.r mounts.mount.mount.Reads.Learnt
+  pub place-of : ResultOnce mounts.look.place_of.Kinds.ps mounts.look.place_of.Kinds.r mounts.look.place_of.Reads.Learnt
+  pub look-up : SeenOnce mounts.look.look_up.Kinds.ps mounts.look.look_up.Kinds.r mounts.look.look_up.Reads.Learnt (λ κs z s. now z)
+
+pub mounts-once : MountsOnce
+mounts-once = search met
+
 -- ---- .. that stage events, and that hand them over
 
 pub record EventOnce : Type 0 where
-  pub next : ResultOnce host.Host.next.Kinds.ps host.Host.next.Kinds.r host.Host.next.Reads.Learnt
-  pub next-memory : SeenOnce host.Host.next.Kinds.ps host.Host.next.Kinds.r host.Host.next.Reads.Learnt (λ κs z s. now (s .1 .0))
-  pub read : ResultOnce host.Host.read.Kinds.ps host.Host.read.Kinds.r host.Host.read.Reads.Learnt
-  pub read-memory : SeenOnce host.Host.read.Kinds.ps host.Host.read.Kinds.r host.Host.read.Reads.Learnt (λ κs z s. now (s .1 .0))
-  pub ingress : ResultOnce host.Host.ingress.Kinds.ps host.Host.ingress.Kinds.r host.Host.ingress.Reads.Learnt
-  pub ingress-staging : SeenOnce host.Host.ingress.Kinds.ps host.Host.ingress.Kinds.r host.Host.ingress.Reads.Learnt (λ κs z s. now (s .1 .0))
-  pub write : ResultOnce host.Host.write.Kinds.ps host.Host.write.Kinds.r host.Host.write.Reads.Learnt
-  pub write-staging : SeenOnce host.Host.write.Kinds.ps host.Host.write.Kinds.r host.Host.write.Reads.Learnt (λ κs z s. now (s .1 .1 .0))
+  pub next : ResultOnce reads.next.next.Kinds.ps reads.next.next.Kinds.r reads.next.next.Reads.Learnt
+  pub next-memory : SeenOnce reads.next.next.Kinds.ps reads.next.next.Kinds.r reads.next.next.Reads.Learnt (λ κs z s. now (s .1 .0))
+  pub read : ResultOnce reads.read.read.Kinds.ps reads.read.read.Kinds.r reads.read.read.Reads.Learnt
+  pub read-memory : SeenOnce reads.read.read.Kinds.ps reads.read.read.Kinds.r reads.read.read.Reads.Learnt (λ κs z s. now (s .1 .0))
+  pub ingress : ResultOnce writes.stage.ingress.Kinds.ps writes.stage.ingress.Kinds.r writes.stage.ingress.Reads.Learnt
+  pub ingress-staging : SeenOnce writes.stage.ingress.Kinds.ps writes.stage.ingress.Kinds.r writes.stage.ingress.Reads.Learnt (λ κs z s. now (s .1 .0))
+  pub write : ResultOnce writes.write.write.Kinds.ps writes.write.write.Kinds.r writes.write.write.Reads.Learnt
+  pub write-staging : SeenOnce writes.write.write.Kinds.ps writes.write.write.Kinds.r writes.write.write.Reads.Learnt (λ κs z s. now (s .1 .1 .0))
 
 pub event-once : EventOnce
 event-once = search met

@@ -26,7 +26,8 @@ use Rattle.weave.proofs.SumLaws.{added-sum}
 use Rattle.takes.specs.Begun.{traceOf, begun}
 use Rattle.host.specs.Hosts.{Lent, lentAs, withWeave}
 use Rattle.host.specs.Ending.{committed}
-use Rattle.host.specs.Mount.{freshHost, mounted}
+use Rattle.host.specs.Hosts.{freshHost}
+use Rattle.mounts.specs.Mount.{mounted}
 use Rattle.promises.specs.Box.{World, Op, step, memoryOf, LendsBytes, mountedAs, run}
 use Rattle.promises.specs.Diary.{Diary, entered, diary, firstPage, Agrees}
 use Rattle.promises.proofs.AcceptedLaws.{lawful}

@@ -28,7 +28,8 @@ use Rattle.weave.proofs.SumLaws.{added-sum}
 use Rattle.takes.specs.Begun.{begun}
 use Rattle.host.specs.Hosts.{Lent, lentAs, lengthsOf, withWeave, lentCheck}
 use Rattle.host.specs.Ending.{committed}
-use Rattle.host.specs.Mount.{freshHost, mounted}
+use Rattle.host.specs.Hosts.{freshHost}
+use Rattle.mounts.specs.Mount.{mounted}
 use Rattle.promises.specs.Box.{World, recordsOn, Op, step, memoryOf, mountedAs, run}
 use Rattle.promises.specs.Diary.{Diary, Agrees, entered, diary, firstPage}
 use Rattle.promises.proofs.StagedLaws.{Stageable}

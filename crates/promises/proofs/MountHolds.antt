@@ -16,7 +16,8 @@ use Rattle.weave.specs.declared.Code.the-variants.{Fine, Unsound, Bad}
 use Rattle.weave.specs.Codes.{isFine, need}
 use Rattle.host.specs.declared.Mounted.{Mounted}
 use Rattle.host.specs.Hosts.{Lent, lengthsOf}
-use Rattle.host.specs.Mount.{freshHost, noHost, sizesFine, mountCheck, mountedBy, mounted}
+use Rattle.host.specs.Hosts.{freshHost, noHost}
+use Rattle.mounts.specs.Mount.{sizesFine, mountCheck, mountedBy, mounted}
 use Rattle.promises.specs.Box.{recordsOn}
 use Rattle.promises.specs.Checks.{failing}
 use Rattle.promises.specs.Mounting.{mountChecks, StateOf, noLengths}

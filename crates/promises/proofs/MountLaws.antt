@@ -16,7 +16,8 @@ use Rattle.weave.specs.Codes.{isFine}
 use Rattle.weave.specs.States.{freshWeave}
 use Rattle.weave.proofs.CodeLaws.{need-test}
 use Rattle.host.specs.Hosts.{Lent, lengthsOf}
-use Rattle.host.specs.Mount.{freshHost, noHost, sizesFine, mountCheck, mountedBy, mounted}
+use Rattle.host.specs.Hosts.{freshHost, noHost}
+use Rattle.mounts.specs.Mount.{sizesFine, mountCheck, mountedBy, mounted}
 use Rattle.promises.specs.Box.{mountedAs}
 
 -- a mount that is not refused

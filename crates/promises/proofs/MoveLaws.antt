@@ -22,7 +22,7 @@ use Rattle.weave.specs.States.{freshWeave, paid, holding, spoilt, turned}
 use Rattle.takes.specs.Begun.{begun}
 use Rattle.takes.specs.Pages.{pageCharge}
 use Rattle.host.specs.Hosts.{lentAs, withWeave}
-use Rattle.host.specs.Paging.{nextList}
+use Rattle.reads.specs.Paging.{nextList}
 use Rattle.host.specs.Ending.{committed}
 use Rattle.promises.specs.Box.{World, Op, step, isRefused, memoryOf, argsOf}
 use Rattle.promises.specs.Refusal.{Unchanged}

@@ -19,12 +19,12 @@ use Rattle.takes.specs.Opening.{opening}
 use Rattle.takes.specs.Begun.{begun}
 use Rattle.host.specs.declared.Host.{Host}
 use Rattle.host.specs.declared.Fate.the-variants.{Discarded}
-use Rattle.host.specs.Hosts.{Lent, withWeave, refused, settle}
+use Rattle.host.specs.Hosts.{Lent, withWeave, turnedAway, settle}
 use Rattle.host.specs.Begin.{beginCheck, beginAnswer, beginStaging}
-use Rattle.host.specs.Stage.{ingressCheck, ingressAnswer, ingressStaging, isPanic, panicked, written, writeCheck, writeAnswer, writeStaging}
-use Rattle.host.specs.Reading.{readSound, readCheck, readAnswer, readMemory}
+use Rattle.writes.specs.Stage.{ingressCheck, ingressAnswer, ingressStaging, isPanic, panicked, written, writeCheck, writeAnswer, writeStaging}
+use Rattle.reads.specs.Reading.{readSound, readCheck, readAnswer, readMemory}
 use Rattle.host.specs.Cursors.{openCheck, openNext, openAnswer, closeCheck, closeNext, closeAnswer, nextHandle}
-use Rattle.host.specs.Paging.{nextSound, nextCheck, nextHost, nextCursor, nextAnswer, nextMemory}
+use Rattle.reads.specs.Paging.{nextSound, nextCheck, nextHost, nextCursor, nextAnswer, nextMemory}
 use Rattle.host.specs.Ending.{fateOf, finished, returnAnswer, returnCard, returnStaging}
 use Rattle.promises.specs.Box.{World, Op, Begin, Ingress, Write, Read, Open, Next, Close, Return, LookUp, answered, step, isRefused, memoryOf}
 use Rattle.promises.specs.Checks.{Check, failing, lentAsked, gate, writeAsks, readAsks, openAsks, nextAsks, closeAsks, checksOf}
@@ -75,7 +75,7 @@ module _ (w : World) (o : Op) (c : Code) (v : ℕ) (next′ : Host) (staging′ 
   -- THE LAW of `settle`: accepted it is what it is then; refused, nothing is changed but for the mark
   settled : (isFine c ≡ false → (staging′ ≡ w .lent .staging) × (memory′ ≡ memoryOf o)) → Comes c (checksOf w o) → (w .host .weave .running ≡ false → isBudget (failing (checksOf w o)) ≡ false)
       → (isRefused (step w o .said) ≡ false → isFine c ≡ true → Accepted w o) → Moved w o
-  unfolding settle refused withWeave
+  unfolding settle turnedAway withWeave
   settled off code idle accepts = go (isFine c) refl (isBudget c) refl
     where
       in-weave : (r : Bool) → w .host .weave .running ≡ r → isBudget c ≡ true → w .host .weave .running ≡ true

@@ -22,7 +22,7 @@ use Rattle.weave.specs.declared.Code.the-variants.{NoRoom}
 use Rattle.weave.specs.Codes.{isFine, number}
 use Rattle.weave.specs.Args.{nextArgs}
 use Rattle.takes.specs.Pages.{pageBytes, pageCharge}
-use Rattle.host.specs.Paging.{nextList, nextAnswer}
+use Rattle.reads.specs.Paging.{nextList, nextAnswer}
 use Rattle.promises.specs.Box.{World, Next, step, codeOf, saidNumber}
 use Rattle.promises.specs.Checks.{Check, Passed, failing, gate, paged, nextFirst}
 use Rattle.promises.specs.Diary.{answerOf}

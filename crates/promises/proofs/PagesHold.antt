@@ -25,13 +25,13 @@ use Rattle.weave.specs.Sums.{added}
 use Rattle.weave.specs.Moves.{cursorOf, openedWith}
 use Rattle.weave.specs.States.{paid, tabled}
 use Rattle.weave.specs.Args.{openArgs, nextArgs}
-use Rattle.weave.specs.Table.{freeSlot, hasHandle, placeOf, slotOf}
+use Rattle.weave.specs.Table.{freeSlot, hasHandle, slotPlace, slotOf}
 use Rattle.takes.specs.Opening.{opening}
 use Rattle.takes.specs.Pages.{pageBytes, pageCode}
 use Rattle.host.specs.Hosts.{withWeave, settle}
 use Rattle.host.specs.Cursors.{openCheck, openNext, openAnswer}
-use Rattle.host.specs.Paging.{nextList, nextCheck, nextAnswer}
-use Rattle.host.proofs.PagingLaws.{next-sound}
+use Rattle.reads.specs.Paging.{nextList, nextCheck, nextAnswer}
+use Rattle.reads.proofs.PagingLaws.{next-sound}
 use Rattle.promises.specs.Box.{World, cardRecords, Op, Open, Next, Answered, step, isRefused, run}
 use Rattle.promises.specs.Accepted.{OpenMay, NextMay}
 use Rattle.promises.specs.Diary.{answerOf}
@@ -111,7 +111,7 @@ module _ (w : World) (m : List ℕ) (at : ℕ) (e : isRefused (step w (Next m at
     unfolding nextList cursorOf
     left-is = go (f .left)
       where
-        p : placeOf (hasHandle k) (w .host .weave .slots) < length (w .host .weave .slots)
+        p : slotPlace (hasHandle k) (w .host .weave .slots) < length (w .host .weave .slots)
         p = rw is at (handle-there (w .host .weave) (f .tidy) (nextArgs m at .handle) (may .handle))
 
         go : Left (w .lent .text) (w .host .weave .turn) (w .host .used) (w .lent .card) (w .host .weave .slots) k whole out → out ++ listLeft w k ≡ whole
@@ -148,7 +148,7 @@ module _ (w : World) (t : TidyIn w) (m : List ℕ) (at k : ℕ) (o : step w (Ope
   slots′ = w .host .weave .slots
 
   abbrev place : ℕ
-  place = placeOf (hasHandle 0) slots′
+  place = slotPlace (hasHandle 0) slots′
 
   may-open : OpenMay (w .lent) (w .host) m at
   may-open = open-exactly w m at .0 (ap isRefused o)
@@ -176,12 +176,12 @@ module _ (w : World) (t : TidyIn w) (m : List ℕ) (at k : ℕ) (o : step w (Ope
   unfolding opening
   new-handle = refl
 
-  new-place : placeOf (hasHandle (w .host .weave .opened + 1)) (set slots′ place new) ≡ place
+  new-place : slotPlace (hasHandle (w .host .weave .opened + 1)) (set slots′ place new) ≡ place
   new-place =
       place-new (hasHandle (w .host .weave .opened + 1)) freeSlot slots′ place new (t .none-above (w .host .weave .opened + 1) (omega arith))
       (own-handle (w .host .weave .opened + 1) new new-handle) place-low
 
-  new-cursor : slotOf (set slots′ place new) (placeOf (hasHandle (w .host .weave .opened + 1)) (set slots′ place new)) .cursor ≡ new .cursor
+  new-cursor : slotOf (set slots′ place new) (slotPlace (hasHandle (w .host .weave .opened + 1)) (set slots′ place new)) .cursor ≡ new .cursor
   unfolding slotOf
   new-cursor =
       ap (λ (s : Slot). s .cursor) (ap (λ (i : ℕ). getD (set slots′ place new) i freeSlot) new-place ∙ got-stored slots′ place new freeSlot place-low)

@@ -26,10 +26,10 @@ use Rattle.takes.specs.Opening.{opening}
 use Rattle.takes.specs.Payloads.{payloadBytes}
 use Rattle.host.specs.declared.Fate.the-variants.{Discarded, Running, Committed}
 use Rattle.host.specs.Hosts.{Lent, lentAs, lengthsOf, withWeave, lentCheck}
-use Rattle.host.specs.Stage.{headerFor, isPanic, writtenTopic}
-use Rattle.host.specs.Mount.{mounted}
-use Rattle.host.specs.Paging.{nextPart, nextAnswer, nextCheck}
-use Rattle.host.specs.Reading.{readTopic, readList, readAnswer, readCheck}
+use Rattle.writes.specs.Stage.{headerFor, isPanic, writtenTopic}
+use Rattle.mounts.specs.Mount.{mounted}
+use Rattle.reads.specs.Paging.{nextPart, nextAnswer, nextCheck}
+use Rattle.reads.specs.Reading.{readTopic, readList, readAnswer, readCheck}
 use Rattle.promises.specs.Box.{World, recordsOn, cardRecords, stagedRecords, LendsBytes, Op, Begin, Ingress, Write, Read, Open, Next, Close, Return, LookUp, Answered, Ended, Part, step, isRefused, codeOf, saidNumber, memoryOf, mountedAs, run}
 use Rattle.promises.specs.Refusal.{Unchanged, OnlyThere}
 use Rattle.promises.specs.Checks.{Passed, failing, checksOf, answers}

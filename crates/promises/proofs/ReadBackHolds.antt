@@ -28,12 +28,12 @@ use Rattle.weave.specs.Moves.{cursorOf}
 use Rattle.weave.specs.Args.{writeArgs, readArgs, nextArgs}
 use Rattle.takes.specs.Payloads.{payloadBytes}
 use Rattle.host.specs.Hosts.{lentCheck}
-use Rattle.host.specs.Stage.{headerFor, ingressCheck, ingressAnswer, ingressStaging, isPanic, writtenTopic, writeCheck, writeAnswer, writeStaging}
-use Rattle.host.specs.Paging.{nextList, nextPart, nextCheck, nextAnswer, nextMemory}
-use Rattle.host.specs.Mount.{looked}
-use Rattle.host.specs.Reading.{readSound, readList, readCheck, readAnswer, readMemory}
-use Rattle.host.proofs.PagingLaws.{next-lies}
-use Rattle.host.proofs.ReadingLaws.{out-lies}
+use Rattle.writes.specs.Stage.{headerFor, ingressCheck, ingressAnswer, ingressStaging, isPanic, writtenTopic, writeCheck, writeAnswer, writeStaging}
+use Rattle.reads.specs.Paging.{nextList, nextPart, nextCheck, nextAnswer, nextMemory}
+use Rattle.mounts.specs.Mount.{looked}
+use Rattle.reads.specs.Reading.{readSound, readList, readCheck, readAnswer, readMemory}
+use Rattle.reads.proofs.PagingLaws.{next-lies}
+use Rattle.reads.proofs.ReadingLaws.{out-lies}
 use Rattle.weave.proofs.CodeLaws.{first-left}
 use Rattle.promises.specs.Box.{World, Ingress, Write, Read, Next, LookUp, Part, step, isRefused}
 use Rattle.promises.specs.Diary.{Diary, ingressRecord, writtenRecord, Agrees}

@@ -15,7 +15,7 @@ use Rattle.card.specs.Pick.{All, only}
 use Rattle.card.proofs.PickLaws.{all-map, all-only, mem-only, only-passes, sorted-only}
 use Rattle.card.proofs.RecordsLaws.{records-rise}
 use Rattle.weave.specs.Args.{readArgs}
-use Rattle.host.specs.Reading.{readTopic, readList}
+use Rattle.reads.specs.Reading.{readTopic, readList}
 use Rattle.promises.specs.Box.{World, stagedPart, stagedRecords, Read, step, isRefused}
 use Rattle.promises.specs.Diary.{answerOf}
 use Rattle.promises.specs.ReadBack.{ReadOf}

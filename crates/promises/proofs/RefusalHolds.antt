@@ -23,9 +23,9 @@ use Rattle.weave.proofs.CodeLaws.{first-left}
 use Rattle.takes.specs.Pages.{pageBytes}
 use Rattle.host.specs.declared.Host.{Host}
 use Rattle.host.specs.Hosts.{Lent, withWeave, settle}
-use Rattle.host.specs.Reading.{readSound, readPage, readCheck, readAnswer, readMemory}
-use Rattle.host.specs.Paging.{nextPage, nextCheck, nextAnswer, nextMemory}
-use Rattle.host.proofs.PagingLaws.{next-sound}
+use Rattle.reads.specs.Reading.{readSound, readPage, readCheck, readAnswer, readMemory}
+use Rattle.reads.specs.Paging.{nextPage, nextCheck, nextAnswer, nextMemory}
+use Rattle.reads.proofs.PagingLaws.{next-sound}
 use Rattle.promises.specs.Refusal.{marked, OnlyThere}
 
 -- "the first -6": a further one finds the mark there, and changes nothing

@@ -9,7 +9,7 @@ use native.Mathlib.Nat.{not-suc-le-zero, le-of-suc-le-suc}
 use lib.ListN.{length, getD, set, replicate}
 use Rattle.le.proofs.TestLaws.{Tested, passes, fails, tested}
 use Rattle.card.specs.Pick.{only}
-use Rattle.weave.specs.Table.{placeOf}
+use Rattle.weave.specs.Table.{slotPlace}
 
 module _ {A : Type 0} (p : A → Bool) (d : A) where
   -- ---- how many pass
@@ -76,84 +76,84 @@ module _ {A : Type 0} (p : A → Bool) (d : A) where
 
   -- ---- where the first is that passes
 
-  place-pass : (x : A) (xs : List A) → p x ≡ true → placeOf p (x ∷ xs) ≡ 0
-  unfolding placeOf
+  place-pass : (x : A) (xs : List A) → p x ≡ true → slotPlace p (x ∷ xs) ≡ 0
+  unfolding slotPlace
   place-pass x xs e = rw e
 
-  place-fail : (x : A) (xs : List A) → p x ≡ false → placeOf p (x ∷ xs) ≡ suc (placeOf p xs)
-  unfolding placeOf
+  place-fail : (x : A) (xs : List A) → p x ≡ false → slotPlace p (x ∷ xs) ≡ suc (slotPlace p xs)
+  unfolding slotPlace
   place-fail x xs e = rw e
 
   -- none passes: the place is behind the end
-  pub place-none : (xs : List A) → many xs ≡ 0 → length xs ≤ placeOf p xs
-  unfolding placeOf
+  pub place-none : (xs : List A) → many xs ≡ 0 → length xs ≤ slotPlace p xs
+  unfolding slotPlace
   place-none [] e = omega arith
   place-none (x ∷ xs) e = go (tested (p x)) (place-none xs)
     where
-      go : Tested (p x) → (many xs ≡ 0 → length xs ≤ placeOf p xs) → suc (length xs) ≤ placeOf p (x ∷ xs)
+      go : Tested (p x) → (many xs ≡ 0 → length xs ≤ slotPlace p xs) → suc (length xs) ≤ slotPlace p (x ∷ xs)
       go (passes q) ih = absurd (omega (arith, many-pass x xs q))
       go (fails q) ih = rw (place-fail x xs q) (omega (arith, ih (sym (many-fail x xs q) ∙ e)))
 
   -- the one that is found passes
-  pub place-passes : (xs : List A) → placeOf p xs < length xs → p (getD xs (placeOf p xs) d) ≡ true
-  unfolding placeOf
+  pub place-passes : (xs : List A) → slotPlace p xs < length xs → p (getD xs (slotPlace p xs) d) ≡ true
+  unfolding slotPlace
   place-passes [] h = absurd (not-suc-le-zero h)
   place-passes (x ∷ xs) h = go (tested (p x)) (place-passes xs)
     where
-      go : Tested (p x) → (placeOf p xs < length xs → p (getD xs (placeOf p xs) d) ≡ true) → p (getD (x ∷ xs) (placeOf p (x ∷ xs)) d) ≡ true
+      go : Tested (p x) → (slotPlace p xs < length xs → p (getD xs (slotPlace p xs) d) ≡ true) → p (getD (x ∷ xs) (slotPlace p (x ∷ xs)) d) ≡ true
       go (passes q) ih = rw (place-pass x xs q) q
       go (fails q) ih = rw (place-fail x xs q) (ih (le-of-suc-le-suc (rw (place-fail x xs q) at h)))
 
   -- storing one that fails, where one failed, is not seen
   module _ (y : A) (e : p y ≡ false) where
-    pub place-kept : (xs : List A) (i : ℕ) → (i < length xs → p (getD xs i d) ≡ false) → placeOf p (set xs i y) ≡ placeOf p xs
+    pub place-kept : (xs : List A) (i : ℕ) → (i < length xs → p (getD xs i d) ≡ false) → slotPlace p (set xs i y) ≡ slotPlace p xs
     place-kept [] i q = refl
     place-kept (x ∷ xs) zero q = place-fail y xs e ∙ sym (place-fail x xs (q (omega arith)))
     place-kept (x ∷ xs) (suc i) q = go (tested (p x)) (place-kept xs i (λ h. q (omega arith)))
       where
-        go : Tested (p x) → placeOf p (set xs i y) ≡ placeOf p xs → placeOf p (x ∷ set xs i y) ≡ placeOf p (x ∷ xs)
+        go : Tested (p x) → slotPlace p (set xs i y) ≡ slotPlace p xs → slotPlace p (x ∷ set xs i y) ≡ slotPlace p (x ∷ xs)
         go (passes t) ih = place-pass x (set xs i y) t ∙ sym (place-pass x xs t)
         go (fails t) ih = place-fail x (set xs i y) t ∙ ap suc ih ∙ sym (place-fail x xs t)
 
-    pub got-kept : (xs : List A) (i : ℕ) → (i < length xs → p (getD xs i d) ≡ false) → getD (set xs i y) (placeOf p xs) d ≡ getD xs (placeOf p xs) d
+    pub got-kept : (xs : List A) (i : ℕ) → (i < length xs → p (getD xs i d) ≡ false) → getD (set xs i y) (slotPlace p xs) d ≡ getD xs (slotPlace p xs) d
     got-kept [] i q = refl
     got-kept (x ∷ xs) zero q = rw (place-fail x xs (q (omega arith)))
     got-kept (x ∷ xs) (suc i) q = go (tested (p x)) (got-kept xs i (λ h. q (omega arith)))
       where
-        go : Tested (p x) → getD (set xs i y) (placeOf p xs) d ≡ getD xs (placeOf p xs) d → getD (x ∷ set xs i y) (placeOf p (x ∷ xs)) d ≡ getD (x ∷ xs) (placeOf p (x ∷ xs)) d
+        go : Tested (p x) → getD (set xs i y) (slotPlace p xs) d ≡ getD xs (slotPlace p xs) d → getD (x ∷ set xs i y) (slotPlace p (x ∷ xs)) d ≡ getD (x ∷ xs) (slotPlace p (x ∷ xs)) d
         go (passes t) ih = rw (place-pass x xs t)
         go (fails t) ih = rw (place-fail x xs t) ih
 
     -- storing it over the one that is found: there is one fewer
-    pub stored-gone : (xs : List A) → placeOf p xs < length xs → many (set xs (placeOf p xs) y) + 1 ≡ many xs
-    unfolding placeOf
+    pub stored-gone : (xs : List A) → slotPlace p xs < length xs → many (set xs (slotPlace p xs) y) + 1 ≡ many xs
+    unfolding slotPlace
     stored-gone [] h = absurd (not-suc-le-zero h)
     stored-gone (x ∷ xs) h = go (tested (p x)) (stored-gone xs)
       where
-        go : Tested (p x) → (placeOf p xs < length xs → many (set xs (placeOf p xs) y) + 1 ≡ many xs) → many (set (x ∷ xs) (placeOf p (x ∷ xs)) y) + 1 ≡ many (x ∷ xs)
+        go : Tested (p x) → (slotPlace p xs < length xs → many (set xs (slotPlace p xs) y) + 1 ≡ many xs) → many (set (x ∷ xs) (slotPlace p (x ∷ xs)) y) + 1 ≡ many (x ∷ xs)
         go (passes t) ih = rw (place-pass x xs t, many-fail y xs e, many-pass x xs t) (omega arith)
         go (fails t) ih =
-            rw (place-fail x xs t, many-fail x (set xs (placeOf p xs) y) t, many-fail x xs t)
+            rw (place-fail x xs t, many-fail x (set xs (slotPlace p xs) y) t, many-fail x xs t)
             (ih (le-of-suc-le-suc (rw (place-fail x xs t) at h)))
 
   -- storing one that passes over the one that is found
   module _ (y : A) (e : p y ≡ true) where
-    pub place-same : (xs : List A) → placeOf p xs < length xs → placeOf p (set xs (placeOf p xs) y) ≡ placeOf p xs
-    unfolding placeOf
+    pub place-same : (xs : List A) → slotPlace p xs < length xs → slotPlace p (set xs (slotPlace p xs) y) ≡ slotPlace p xs
+    unfolding slotPlace
     place-same [] h = absurd (not-suc-le-zero h)
     place-same (x ∷ xs) h = go (tested (p x)) (place-same xs)
       where
-        go : Tested (p x) → (placeOf p xs < length xs → placeOf p (set xs (placeOf p xs) y) ≡ placeOf p xs) → placeOf p (set (x ∷ xs) (placeOf p (x ∷ xs)) y) ≡ placeOf p (x ∷ xs)
+        go : Tested (p x) → (slotPlace p xs < length xs → slotPlace p (set xs (slotPlace p xs) y) ≡ slotPlace p xs) → slotPlace p (set (x ∷ xs) (slotPlace p (x ∷ xs)) y) ≡ slotPlace p (x ∷ xs)
         go (passes t) ih = rw (place-pass x xs t) (place-pass y xs e)
-        go (fails t) ih = rw (place-fail x xs t) (place-fail x (set xs (placeOf p xs) y) t ∙ ap suc (ih (le-of-suc-le-suc (rw (place-fail x xs t) at h))))
+        go (fails t) ih = rw (place-fail x xs t) (place-fail x (set xs (slotPlace p xs) y) t ∙ ap suc (ih (le-of-suc-le-suc (rw (place-fail x xs t) at h))))
 
   -- storing one that passes where none did
-  pub place-new : (xs : List A) (i : ℕ) (y : A) → many xs ≡ 0 → p y ≡ true → i < length xs → placeOf p (set xs i y) ≡ i
+  pub place-new : (xs : List A) (i : ℕ) (y : A) → many xs ≡ 0 → p y ≡ true → i < length xs → slotPlace p (set xs i y) ≡ i
   place-new [] i y n e h = absurd (not-suc-le-zero h)
   place-new (x ∷ xs) zero y n e h = place-pass y xs e
   place-new (x ∷ xs) (suc i) y n e h = go (tested (p x)) (place-new xs i y)
     where
-      go : Tested (p x) → (many xs ≡ 0 → p y ≡ true → i < length xs → placeOf p (set xs i y) ≡ i) → placeOf p (x ∷ set xs i y) ≡ suc i
+      go : Tested (p x) → (many xs ≡ 0 → p y ≡ true → i < length xs → slotPlace p (set xs i y) ≡ i) → slotPlace p (x ∷ set xs i y) ≡ suc i
       go (passes t) ih = absurd (omega (arith, many-pass x xs t))
       go (fails t) ih = place-fail x (set xs i y) t ∙ ap suc (ih (sym (many-fail x xs t) ∙ n) e (le-of-suc-le-suc h))
 

@@ -30,8 +30,8 @@ use Rattle.takes.specs.Payloads.{payloadBytes}
 use Rattle.takes.proofs.PayloadLaws.{payload-long, value-fine}
 use Rattle.host.specs.declared.Host.{Host}
 use Rattle.host.specs.Hosts.{Lent}
-use Rattle.host.specs.Stage.{roomFine, headerFor, writtenTopic, dataLen, isPanic}
-use Rattle.host.proofs.StageLaws.{room-fits, room-counted}
+use Rattle.writes.specs.Stage.{roomFine, headerFor, writtenTopic, dataLen, isPanic}
+use Rattle.writes.proofs.StageLaws.{room-fits, room-counted}
 use Rattle.promises.specs.Accepted.{IngressMay, WriteMay}
 use Rattle.promises.proofs.AcceptedLaws.{Lawful, lawful, turn-16}
 

@@ -11,7 +11,7 @@ use lib.ListN.{length}
 use Rattle.le.proofs.TestLaws.{and-left, and-right}
 use Rattle.weave.specs.declared.Weave.{Weave}
 use Rattle.weave.specs.Sums.{added}
-use Rattle.weave.specs.Table.{hasHandle, placeOf}
+use Rattle.weave.specs.Table.{hasHandle, slotPlace}
 use Rattle.weave.specs.Moves.{openedWith, movedTo, closedAt}
 use Rattle.weave.specs.States.{freshWeave, begunWeave, paid, holding, tabled, spoilt, turned}
 use Rattle.weave.specs.Checks.{handleFine, slotFine}
@@ -29,20 +29,20 @@ use Rattle.promises.proofs.MountLaws.{mount-fresh}
 -- ---- what check 9 says of the table
 
 -- tl_open: a room is free, and its handle is the next number
-pub slot-free : (w : Weave) → slotFine w ≡ true → placeOf (hasHandle 0) (w .slots) < 4
+pub slot-free : (w : Weave) → slotFine w ≡ true → slotPlace (hasHandle 0) (w .slots) < 4
 unfolding slotFine
-slot-free w f = ltb-true (placeOf (hasHandle 0) (w .slots)) 4 (and-left (ltb (placeOf (hasHandle 0) (w .slots)) 4) _ f)
+slot-free w f = ltb-true (slotPlace (hasHandle 0) (w .slots)) 4 (and-left (ltb (slotPlace (hasHandle 0) (w .slots)) 4) _ f)
 
 pub handle-new : (w : Weave) → slotFine w ≡ true → added (w .opened) 1 65535 ≡ w .opened + 1
 unfolding slotFine
 handle-new w f =
-    let few = ltb-true (w .opened) 65535 (and-right (ltb (placeOf (hasHandle 0) (w .slots)) 4) _ f) in
+    let few = ltb-true (w .opened) 65535 (and-right (ltb (slotPlace (hasHandle 0) (w .slots)) 4) _ f) in
     added-sum (w .opened) 1 65535 (omega (arith, few))
 
 -- an open handle's place
-pub handle-there : (w : Weave) → Tidy (w .slots) (w .opened) → (k : ℕ) → handleFine w k ≡ true → placeOf (hasHandle k) (w .slots) < length (w .slots)
+pub handle-there : (w : Weave) → Tidy (w .slots) (w .opened) → (k : ℕ) → handleFine w k ≡ true → slotPlace (hasHandle k) (w .slots) < length (w .slots)
 unfolding handleFine
-handle-there w t k f = rw (t .four) (ltb-true (placeOf (hasHandle k) (w .slots)) 4 (and-right (ltb 0 k) _ f))
+handle-there w t k f = rw (t .four) (ltb-true (slotPlace (hasHandle k) (w .slots)) 4 (and-right (ltb 0 k) _ f))
 
 -- ---- any move
 
@@ -54,10 +54,10 @@ change-tidy w o (Writes r n b g) t = t
 change-tidy w o (Pays charge b) t = t
 change-tidy w o (Opens s e f b) t =
     let new = handle-new (w .host .weave) f in
-    rw new (tidy-opened (w .host .weave .slots) (w .host .weave .opened) t (placeOf (hasHandle 0) (w .host .weave .slots)) s (rw new at e))
+    rw new (tidy-opened (w .host .weave .slots) (w .host .weave .opened) t (slotPlace (hasHandle 0) (w .host .weave .slots)) s (rw new at e))
 change-tidy w o (Hands k cap f b) t =
     tidy-moved (w .host .weave .slots) (w .host .weave .opened) t k _ refl (handle-there (w .host .weave) t k f)
-change-tidy w o (Closes k f b) t = tidy-free (w .host .weave .slots) (w .host .weave .opened) t (placeOf (hasHandle k) (w .host .weave .slots))
+change-tidy w o (Closes k f b) t = tidy-free (w .host .weave .slots) (w .host .weave .opened) t (slotPlace (hasHandle k) (w .host .weave .slots))
 change-tidy w o Panics t = t
 change-tidy w o (Turns i low) t = tidy-none (w .host .weave .opened)
 

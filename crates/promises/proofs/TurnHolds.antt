@@ -13,10 +13,10 @@ use Rattle.card.specs.Pick.{All}
 use Rattle.weave.specs.declared.Slot.{Slot}
 use Rattle.card.specs.Listing.{fit, advance}
 use Rattle.weave.specs.Checks.{handleFine}
-use Rattle.weave.specs.Table.{freeSlot, hasHandle, placeOf}
+use Rattle.weave.specs.Table.{freeSlot, hasHandle, slotPlace}
 use Rattle.weave.specs.Moves.{cursorOf, openedWith, movedTo, closedAt}
 use Rattle.weave.specs.States.{paid, holding, tabled, spoilt}
-use Rattle.host.specs.Paging.{nextList}
+use Rattle.reads.specs.Paging.{nextList}
 use Rattle.promises.specs.Box.{World, Op, step, run}
 use Rattle.promises.specs.Turn.{InTurn, givenBy, handedOver}
 use Rattle.promises.proofs.SlotLaws.{place-passes}
@@ -41,15 +41,15 @@ module _ (w : World) (k : ℕ) (whole out : List (List ℕ)) (f : FollowedIn w k
   still = follow-still _ _ _ _ _ _ _ k whole out f
 
   -- the slot of another handle is not k's
-  not-k : (j : ℕ) → (j ≡ k → ⊥) → placeOf (hasHandle j) slots′ < length slots′ → hasHandle k (getD slots′ (placeOf (hasHandle j) slots′) freeSlot) ≡ false
+  not-k : (j : ℕ) → (j ≡ k → ⊥) → slotPlace (hasHandle j) slots′ < length slots′ → hasHandle k (getD slots′ (slotPlace (hasHandle j) slots′) freeSlot) ≡ false
   not-k j n p =
-      other-handle k _ (λ e. n (sym (handle-is j (getD slots′ (placeOf (hasHandle j) slots′) freeSlot) (place-passes (hasHandle j) freeSlot slots′ p)) ∙ e))
+      other-handle k _ (λ e. n (sym (handle-is j (getD slots′ (slotPlace (hasHandle j) slots′) freeSlot) (place-passes (hasHandle j) freeSlot slots′ p)) ∙ e))
 
   -- ---- calls that store a slot: of the cursor itself, or of another
 
   module _ (j : ℕ) (e : handleFine (w .host .weave) j ≡ true) where
     abbrev place : ℕ
-    place = placeOf (hasHandle j) slots′
+    place = slotPlace (hasHandle j) slots′
 
     there : place < length slots′
     there = handle-there (w .host .weave) (f .tidy) j e
@@ -89,8 +89,8 @@ module _ (w : World) (k : ℕ) (whole out : List (List ℕ)) (f : FollowedIn w k
         let new = handle-new (w .host .weave) fine in
         let is : s .handle ≡ w .host .weave .opened + 1 = e ∙ new in
         rw (new, append-nil out)
-        (follow-other _ _ _ _ _ _ _ k whole out f (placeOf (hasHandle 0) slots′) s (w .host .weave .opened + 1) (other-handle k s (λ q. omega (arith, f .most)))
-        (not-k 0 (λ q. omega (arith, f .least))) (tidy-opened slots′ (w .host .weave .opened) (f .tidy) (placeOf (hasHandle 0) slots′) s is) (omega (arith, f .most)))
+        (follow-other _ _ _ _ _ _ _ k whole out f (slotPlace (hasHandle 0) slots′) s (w .host .weave .opened + 1) (other-handle k s (λ q. omega (arith, f .most)))
+        (not-k 0 (λ q. omega (arith, f .least))) (tidy-opened slots′ (w .host .weave .opened) (f .tidy) (slotPlace (hasHandle 0) slots′) s is) (omega (arith, f .most)))
     change-followed (Hands j n e b) i = hands-followed j e n
     change-followed (Closes j e b) i = closes-followed j e
     change-followed Panics i = still

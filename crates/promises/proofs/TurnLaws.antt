@@ -16,7 +16,7 @@ use Rattle.card.specs.Listing.{listOf, fit, advance}
 use Rattle.card.proofs.RecordsLaws.{records-rise}
 use Rattle.card.proofs.ListingLaws.{fit-first, fit-lists}
 use Rattle.weave.specs.declared.Slot.{Slot}
-use Rattle.weave.specs.Table.{freeSlot, noSlots, hasHandle, placeOf, slotOf}
+use Rattle.weave.specs.Table.{freeSlot, noSlots, hasHandle, slotPlace, slotOf}
 use Rattle.promises.specs.Turn.{Tidy}
 use Rattle.promises.proofs.SlotLaws.{many-alike, stored-fewer, stored-same, stored-more, place-none, place-passes, place-kept, got-kept, stored-gone, place-same, got-stored, length-stored}
 
@@ -61,20 +61,20 @@ module _ (slots : List Slot) (opened : ℕ) (t : Tidy slots opened) where
   }
 
   -- a cursor moves: the slot with its handle is stored anew
-  pub tidy-moved : (j : ℕ) (s : Slot) → s .handle ≡ j → placeOf (hasHandle j) slots < length slots → Tidy (set slots (placeOf (hasHandle j) slots) s) opened
+  pub tidy-moved : (j : ℕ) (s : Slot) → s .handle ≡ j → slotPlace (hasHandle j) slots < length slots → Tidy (set slots (slotPlace (hasHandle j) slots) s) opened
   tidy-moved j s e p = record {
-    four = long (placeOf (hasHandle j) slots) s;
+    four = long (slotPlace (hasHandle j) slots) s;
     once = λ k h. omega (arith, fewer k, t .once k h);
     none-above = λ k h. omega (arith, fewer k, t .none-above k h);
   }
     where
-      fewer : (k : ℕ) → length (only (hasHandle k) (set slots (placeOf (hasHandle j) slots) s)) ≤ length (only (hasHandle k) slots)
+      fewer : (k : ℕ) → length (only (hasHandle k) (set slots (slotPlace (hasHandle j) slots) s)) ≤ length (only (hasHandle k) slots)
       fewer k = go (tested (hasHandle k s))
         where
-          go : Tested (hasHandle k s) → length (only (hasHandle k) (set slots (placeOf (hasHandle j) slots) s)) ≤ length (only (hasHandle k) slots)
-          go (fails q) = stored-fewer (hasHandle k) freeSlot slots (placeOf (hasHandle j) slots) s q
+          go : Tested (hasHandle k s) → length (only (hasHandle k) (set slots (slotPlace (hasHandle j) slots) s)) ≤ length (only (hasHandle k) slots)
+          go (fails q) = stored-fewer (hasHandle k) freeSlot slots (slotPlace (hasHandle j) slots) s q
           go (passes q) =
-              stored-same (hasHandle k) freeSlot slots (placeOf (hasHandle j) slots) s p
+              stored-same (hasHandle k) freeSlot slots (slotPlace (hasHandle j) slots) s p
               (rw (sym (handle-is k s q) ∙ e) (place-passes (hasHandle j) freeSlot slots p))
 
   -- a cursor is opened, with a handle that is new
@@ -94,11 +94,11 @@ module _ (slots : List Slot) (opened : ℕ) (t : Tidy slots opened) where
 -- what a cursor lists: the handle's cursor, over what is on the card, as far as the module may read it
 abbrev pub listAt : List ℕ → ℕ → ℕ → List ℕ → List Slot → ℕ → List (List ℕ)
 listAt text turn used card slots k =
-    listOf (mayRead text turn) (slotOf slots (placeOf (hasHandle k) slots) .cursor) (records (take used card) 1)
+    listOf (mayRead text turn) (slotOf slots (slotPlace (hasHandle k) slots) .cursor) (records (take used card) 1)
 
 -- of its list `whole`, `out` is out: either it is open and lists the rest, or it is closed for good
 pub data Left (text : List ℕ) (turn used : ℕ) (card : List ℕ) (slots : List Slot) (k : ℕ) (whole out : List (List ℕ)) : Type 0 where
-  listing : placeOf (hasHandle k) slots < length slots → out ++ listAt text turn used card slots k ≡ whole → Left text turn used card slots k whole out
+  listing : slotPlace (hasHandle k) slots < length slots → out ++ listAt text turn used card slots k ≡ whole → Left text turn used card slots k whole out
   shut : (rest : List (List ℕ)) → length (only (hasHandle k) slots) ≡ 0 → out ++ rest ≡ whole → Left text turn used card slots k whole out
 
 pub record Followed (running : Bool) (text : List ℕ) (turn used : ℕ) (card : List ℕ) (slots : List Slot) (opened k : ℕ) (whole out : List (List ℕ)) : Type 0 where
@@ -132,9 +132,9 @@ module _ (running : Bool) (text : List ℕ) (turn used : ℕ) (card : List ℕ) 
     follow-other = record { runs = f .runs; tidy = t; least = f .least; most = m; left = left-other (f .left) }
 
   -- it hands over a page, and its cursor moves past just that
-  pub follow-own : (cap : ℕ) → placeOf (hasHandle k) slots < length slots
+  pub follow-own : (cap : ℕ) → slotPlace (hasHandle k) slots < length slots
       → Followed running text turn used card
-      (set slots (placeOf (hasHandle k) slots) (record { handle = k; cursor = advance (slotOf slots (placeOf (hasHandle k) slots) .cursor) (fit cap (listAt text turn used card slots k)) }))
+      (set slots (slotPlace (hasHandle k) slots) (record { handle = k; cursor = advance (slotOf slots (slotPlace (hasHandle k) slots) .cursor) (fit cap (listAt text turn used card slots k)) }))
       opened k whole (out ++ fit cap (listAt text turn used card slots k))
   unfolding slotOf
   follow-own cap p = record {
@@ -146,7 +146,7 @@ module _ (running : Bool) (text : List ℕ) (turn used : ℕ) (card : List ℕ) 
   }
     where
       c : Cursor
-      c = getD slots (placeOf (hasHandle k) slots) freeSlot .cursor
+      c = getD slots (slotPlace (hasHandle k) slots) freeSlot .cursor
 
       page : List (List ℕ)
       page = fit cap (listAt text turn used card slots k)
@@ -154,27 +154,27 @@ module _ (running : Bool) (text : List ℕ) (turn used : ℕ) (card : List ℕ) 
       moved : Slot
       moved = record { handle = k; cursor = advance c page }
 
-      go : Left text turn used card slots k whole out → Left text turn used card (set slots (placeOf (hasHandle k) slots) moved) k whole (out ++ page)
+      go : Left text turn used card slots k whole out → Left text turn used card (set slots (slotPlace (hasHandle k) slots) moved) k whole (out ++ page)
       go (listing p′ e) =
-          listing (rw (place-same (hasHandle k) freeSlot moved (own-handle k moved refl) slots p, length-stored slots (placeOf (hasHandle k) slots) moved) p)
-          (rw (place-same (hasHandle k) freeSlot moved (own-handle k moved refl) slots p, got-stored slots (placeOf (hasHandle k) slots) moved freeSlot p, append-assoc)
+          listing (rw (place-same (hasHandle k) freeSlot moved (own-handle k moved refl) slots p, length-stored slots (slotPlace (hasHandle k) slots) moved) p)
+          (rw (place-same (hasHandle k) freeSlot moved (own-handle k moved refl) slots p, got-stored slots (slotPlace (hasHandle k) slots) moved freeSlot p, append-assoc)
           (ap (λ (z : List (List ℕ)). out ++ (page ++ z)) (fit-lists (mayRead text turn) c (records (take used card) 1) cap (records-rise (take used card) 1))
           ∙ ap (λ (z : List (List ℕ)). out ++ z) (sym (fit-first cap (listAt text turn used card slots k))) ∙ e))
       go (shut rest z e) = absurd (omega (arith, place-none (hasHandle k) freeSlot slots z))
 
   -- it is closed
-  pub follow-shut : placeOf (hasHandle k) slots < length slots → Followed running text turn used card (set slots (placeOf (hasHandle k) slots) freeSlot) opened k whole out
+  pub follow-shut : slotPlace (hasHandle k) slots < length slots → Followed running text turn used card (set slots (slotPlace (hasHandle k) slots) freeSlot) opened k whole out
   follow-shut p = record {
     runs = f .runs;
-    tidy = tidy-free slots opened (f .tidy) (placeOf (hasHandle k) slots);
+    tidy = tidy-free slots opened (f .tidy) (slotPlace (hasHandle k) slots);
     least = f .least;
     most = f .most;
     left = go (f .left);
   }
     where
-      none : length (only (hasHandle k) (set slots (placeOf (hasHandle k) slots) freeSlot)) ≡ 0
+      none : length (only (hasHandle k) (set slots (slotPlace (hasHandle k) slots) freeSlot)) ≡ 0
       none = omega (arith, stored-gone (hasHandle k) freeSlot freeSlot (free-handle k (f .least)) slots p, f .tidy .once k (f .least))
 
-      go : Left text turn used card slots k whole out → Left text turn used card (set slots (placeOf (hasHandle k) slots) freeSlot) k whole out
+      go : Left text turn used card slots k whole out → Left text turn used card (set slots (slotPlace (hasHandle k) slots) freeSlot) k whole out
       go (listing p′ e) = shut (listAt text turn used card slots k) none e
       go (shut rest z e) = shut rest none e

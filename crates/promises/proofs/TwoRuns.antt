@@ -39,8 +39,9 @@ use Rattle.weave.specs.Codes.{isFine, need}
 use Rattle.weave.specs.States.{freshWeave, begunWeave, paid, holding, tabled}
 use Rattle.host.specs.Hosts.{Lent, lentAs, lengthsOf, withWeave, lentCheck, settle}
 use Rattle.host.specs.Begin.{beginCheck, beginAnswer, beginStaging}
-use Rattle.host.specs.Mount.{freshHost, sizesFine, mountCheck, mountedBy, mounted}
-use Rattle.host.specs.Stage.{roomFine, headerFor, isPanic, writtenTopic, dataLen, writeCharge, written, writeCheck, writeAnswer, writeStaging}
+use Rattle.host.specs.Hosts.{freshHost}
+use Rattle.mounts.specs.Mount.{sizesFine, mountCheck, mountedBy, mounted}
+use Rattle.writes.specs.Stage.{roomFine, headerFor, isPanic, writtenTopic, dataLen, writeCharge, written, writeCheck, writeAnswer, writeStaging}
 use Rattle.host.specs.declared.Fate.the-variants.{Running, Committed}
 use Rattle.record.specs.Record.{idOf, topicOf}
 use Rattle.record.specs.Written.{Written}
@@ -49,7 +50,7 @@ use Rattle.weave.specs.Sums.{added}
 use Rattle.weave.proofs.SumLaws.{added-sum}
 use mathlib.Core.Logic.{inl}
 use lib.IntN.{pos}
-use Rattle.host.specs.Reading.{readSound, readList, readPage, readCheck, readAnswer}
+use Rattle.reads.specs.Reading.{readSound, readList, readPage, readCheck, readAnswer}
 use Rattle.takes.specs.Pages.{pageCharge}
 use Rattle.weave.proofs.CodeLaws.{first-left}
 use Rattle.promises.specs.Accepted.{WriteMay, ReadMay, OpenMay, NextMay, CloseMay}
@@ -58,11 +59,11 @@ use Rattle.promises.specs.Diary.{Diary, writtenRecord, noted, firstPage,
 use Rattle.promises.proofs.AcceptedLaws.{settle-ok}
 use Rattle.promises.proofs.AcceptedHolds.{begin-exactly, write-exactly, read-exactly, open-exactly, next-exactly, close-exactly, read-page, next-page}
 use Rattle.weave.specs.declared.Slot.{Slot}
-use Rattle.weave.specs.Table.{freeSlot, noSlots, hasHandle, placeOf, slotOf}
+use Rattle.weave.specs.Table.{freeSlot, noSlots, hasHandle, slotPlace, slotOf}
 use Rattle.weave.specs.Checks.{slotFine, handleFine}
 use Rattle.card.specs.declared.Cursor.{Cursor}
 use Rattle.text.specs.Compare.{prefixOf}
-use Rattle.host.specs.Paging.{nextSound, nextList, nextPage, nextCheck, nextCursor, nextHost, nextAnswer}
+use Rattle.reads.specs.Paging.{nextSound, nextList, nextPage, nextCheck, nextCursor, nextHost, nextAnswer}
 use Rattle.promises.specs.Turn.{listLeft, Allowed}
 use Rattle.promises.proofs.AskedHolds.{asked-by}
 use Rattle.promises.proofs.ListHolds.{means-listed}
@@ -477,7 +478,7 @@ module _ (n c : ℕ) (n-least : 65536 ≤ n) (n-most : n ≤ 1048576) (c-least :
   -- ---- a cursor is opened
 
   may₆ : OpenMay (w₆ .lent) (w₆ .host) memory 88
-  unfolding withWeave begun begunWeave argAt leAt slotFine placeOf hasHandle noSlots freeSlot
+  unfolding withWeave begun begunWeave argAt leAt slotFine slotPlace hasHandle noSlots freeSlot
   may₆ = record {
     gated = record { memory = rw long-memory (omega arith); check-1 = at₆ .check-1; running = refl; unspoiled = refl };
     args = records-fine .1 .1 .0;
@@ -542,13 +543,13 @@ module _ (n c : ℕ) (n-least : 65536 ≤ n) (n-most : n ≤ 1048576) (c-least :
       (means-listed (mayRead twoModules 1) cursor₆ event allowed₆)
 
   list₇ : listLeft w₇ 1 ≡ event ∷ []
-  unfolding nextList cursorOf slotOf withWeave openedWith tabled paid begun begunWeave placeOf hasHandle noSlots freeSlot opening
+  unfolding nextList cursorOf slotOf withWeave openedWith tabled paid begun begunWeave slotPlace hasHandle noSlots freeSlot opening
   list₇ = rw card₇ lists
 
   -- ---- the event is handed over
 
   may₇ : NextMay (w₇ .lent) (w₇ .host) memory 136
-  unfolding withWeave openedWith tabled paid begun begunWeave argAt leAt added handleFine placeOf hasHandle noSlots freeSlot opening
+  unfolding withWeave openedWith tabled paid begun begunWeave argAt leAt added handleFine slotPlace hasHandle noSlots freeSlot opening
   may₇ = record {
     gated = record { memory = rw long-memory (omega arith); check-1 = at₇ .check-1; running = refl; unspoiled = refl };
     args = records-fine .1 .1 .1 .0;
@@ -577,7 +578,7 @@ module _ (n c : ℕ) (n-least : 65536 ≤ n) (n-most : n ≤ 1048576) (c-least :
   page₇ = next-page w₇ memory 136 (first-left (nextSound (w₇ .lent) (w₇ .host) memory 136) _ f₇) ∙ rw (next-args, list₇) page₃
 
   cursor₇ : cursorOf (w₇ .host .weave) 1 ≡ cursor₆
-  unfolding cursorOf slotOf withWeave openedWith tabled paid begun begunWeave placeOf hasHandle noSlots freeSlot opening
+  unfolding cursorOf slotOf withWeave openedWith tabled paid begun begunWeave slotPlace hasHandle noSlots freeSlot opening
   cursor₇ = refl
 
   fit₇ : fit 136 (event ∷ []) ≡ event ∷ []
@@ -604,7 +605,7 @@ module _ (n c : ℕ) (n-least : 65536 ≤ n) (n-most : n ≤ 1048576) (c-least :
   rest₈ = rw (lists, fit₇, event-long) at (fit-lists (mayRead twoModules 1) cursor₆ (event ∷ []) 136 (tt, tt))
 
   cursor-8 : cursorOf (w₈ .host .weave) 1 ≡ cursor₈
-  unfolding cursorOf slotOf withWeave openedWith movedTo tabled paid begun begunWeave placeOf hasHandle noSlots freeSlot opening
+  unfolding cursorOf slotOf withWeave openedWith movedTo tabled paid begun begunWeave slotPlace hasHandle noSlots freeSlot opening
   cursor-8 = refl
 
   list₈ : listLeft w₈ 1 ≡ []
@@ -614,7 +615,7 @@ module _ (n c : ℕ) (n-least : 65536 ≤ n) (n-most : n ≤ 1048576) (c-least :
   -- ---- the end is told
 
   may₈ : NextMay (w₈ .lent) (w₈ .host) memory 136
-  unfolding withWeave openedWith movedTo tabled paid begun begunWeave argAt leAt added handleFine placeOf hasHandle noSlots freeSlot opening pageOf
+  unfolding withWeave openedWith movedTo tabled paid begun begunWeave argAt leAt added handleFine slotPlace hasHandle noSlots freeSlot opening pageOf
   may₈ = record {
     gated = record { memory = rw long-memory (omega arith); check-1 = at₈ .check-1; running = refl; unspoiled = refl };
     args = records-fine .1 .1 .1 .0;
@@ -656,7 +657,7 @@ module _ (n c : ℕ) (n-least : 65536 ≤ n) (n-most : n ≤ 1048576) (c-least :
   -- ---- the cursor is closed
 
   may₉ : CloseMay (w₉ .lent) (w₉ .host) memory 160
-  unfolding withWeave openedWith movedTo tabled paid begun begunWeave argAt leAt added handleFine placeOf hasHandle noSlots freeSlot opening
+  unfolding withWeave openedWith movedTo tabled paid begun begunWeave argAt leAt added handleFine slotPlace hasHandle noSlots freeSlot opening
   may₉ = record {
     gated = record { memory = rw long-memory (omega arith); check-1 = at₉ .check-1; running = refl; unspoiled = refl };
     args = records-fine .1 .1 .1 .1;

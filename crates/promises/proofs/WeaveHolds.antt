@@ -17,7 +17,7 @@ use Rattle.weave.specs.declared.Weave.{Weave}
 use Rattle.weave.specs.Moves.{openedWith, movedTo, closedAt}
 use Rattle.weave.specs.States.{freshWeave, begunWeave, paid, holding, tabled, spoilt, turned}
 use Rattle.takes.specs.Begun.{argAt, traceOf, begun}
-use Rattle.host.specs.Hosts.{Lent, withWeave, refused, settle}
+use Rattle.host.specs.Hosts.{Lent, withWeave, turnedAway, settle}
 use Rattle.host.specs.Begin.{beginCheck, beginAnswer, beginStaging}
 use Rattle.host.specs.Ending.{committed}
 use Rattle.promises.specs.Box.{World, Op, Begin, step, isRefused, argsOf, LendsBytes, mountedAs, run}
@@ -37,7 +37,7 @@ whole-trace t e =
     ∙ part-of-splice (zeros 32) 0 t (omega (arith, length-replicate {0} {A = ℕ} 32 0))
 
 pub begin-sets : (w : World) (args : List ℕ) → isRefused (step w (Begin args) .said) ≡ false → Begun args w (step w (Begin args) .world)
-unfolding step beginAnswer beginStaging settle refused withWeave begun begunWeave argAt traceOf
+unfolding step beginAnswer beginStaging settle turnedAway withWeave begun begunWeave argAt traceOf
 begin-sets w args e =
     let c = settle-ok (w .host) (beginCheck (w .lent) (w .host) args) 0 _ e in
     let n = begin-exactly w args .0 e .long in

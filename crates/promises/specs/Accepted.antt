@@ -20,9 +20,9 @@ use Rattle.takes.specs.Payloads.{payloadChecked}
 use Rattle.takes.specs.Pages.{pageCode, pageCharge}
 use Rattle.host.specs.declared.Host.{Host}
 use Rattle.host.specs.Hosts.{Lent, lentCheck}
-use Rattle.host.specs.Stage.{roomFine, isPanic, writtenTopic, dataLen, writeCharge}
-use Rattle.host.specs.Reading.{readTopic, readList}
-use Rattle.host.specs.Paging.{nextList}
+use Rattle.writes.specs.Stage.{roomFine, isPanic, writtenTopic, dataLen, writeCharge}
+use Rattle.reads.specs.Reading.{readTopic, readList}
+use Rattle.reads.specs.Paging.{nextList}
 use Rattle.promises.specs.Box.{cardChained, stagedPart}
 
 pub record BeginMay (l : Lent) (h : Host) (args : List ℕ) : Type 0 where

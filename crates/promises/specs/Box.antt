@@ -17,14 +17,14 @@ use Rattle.host.specs.declared.Answer.{Answer}
 use Rattle.host.specs.declared.Fate.{Fate}
 use Rattle.host.specs.declared.Fate.the-variants.{Refused, Discarded, Running, Committed}
 use Rattle.host.specs.Hosts.{Lent, lentAs}
-use Rattle.host.specs.Fates.{fateNumber, fateEvents, kept}
+use Rattle.host.specs.Fates.{fateNumber, fateEvents, fateBytes}
 use Rattle.host.specs.Begin.{beginAnswer, beginStaging}
-use Rattle.host.specs.Stage.{ingressAnswer, ingressStaging, writeAnswer, writeStaging}
-use Rattle.host.specs.Reading.{readAnswer, readMemory}
+use Rattle.writes.specs.Stage.{ingressAnswer, ingressStaging, writeAnswer, writeStaging}
+use Rattle.reads.specs.Reading.{readAnswer, readMemory}
 use Rattle.host.specs.Cursors.{openAnswer, closeAnswer}
-use Rattle.host.specs.Paging.{nextAnswer, nextMemory}
+use Rattle.reads.specs.Paging.{nextAnswer, nextMemory}
 use Rattle.host.specs.Ending.{returnAnswer, returnCard, returnStaging}
-use Rattle.host.specs.Mount.{mounted, looked}
+use Rattle.mounts.specs.Mount.{mounted, looked}
 
 -- a box between two calls: its state, and the buffers it is lent
 pub record World : Type 0 where
@@ -156,7 +156,7 @@ saidEvents (Part bytes) = 0
 
 abbrev pub saidBytes : Said → ℕ
 saidBytes (Answered c v) = 0
-saidBytes (Ended f) = kept f
+saidBytes (Ended f) = fateBytes f
 saidBytes (Part bytes) = 0
 
 -- refused: a code is given. "Discards are outcomes", and a look-up gives no code

@@ -26,9 +26,9 @@ use Rattle.weave.specs.Checks.{lentFine, handleFine, slotFine}
 use Rattle.takes.specs.Payloads.{payloadChecked}
 use Rattle.takes.specs.Pages.{pageCode, pageCharge}
 use Rattle.host.specs.Hosts.{lengthsOf}
-use Rattle.host.specs.Stage.{roomFine, isPanic, writtenTopic, dataLen, writeCharge}
-use Rattle.host.specs.Reading.{readTopic, readList}
-use Rattle.host.specs.Paging.{nextList}
+use Rattle.writes.specs.Stage.{roomFine, isPanic, writtenTopic, dataLen, writeCharge}
+use Rattle.reads.specs.Reading.{readTopic, readList}
+use Rattle.reads.specs.Paging.{nextList}
 use Rattle.promises.specs.Box.{World, cardChained, stagedPart, Op, Begin, Ingress, Write, Read, Open, Next, Close, Return, LookUp}
 
 pub record Check : Type 0 where

@@ -13,7 +13,7 @@ use Rattle.takes.specs.Payloads.{payloadBytes}
 use Rattle.host.specs.declared.Fate.{Fate}
 use Rattle.host.specs.declared.Fate.the-variants.{Refused, Discarded, Running, Committed}
 use Rattle.host.specs.Hosts.{Lent}
-use Rattle.host.specs.Stage.{headerFor, writtenTopic, isPanic}
+use Rattle.writes.specs.Stage.{headerFor, writtenTopic, isPanic}
 use Rattle.promises.specs.Box.{World, recordsOn, cardRecords, cardChained, stagedPart, stagedRecords, Op, Begin, Ingress, Write, Read, Open, Next, Close, Return, LookUp, Said, Answered, Ended, Part, step, isRefused}
 
 pub record Diary : Type 0 where

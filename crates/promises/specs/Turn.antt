@@ -15,7 +15,7 @@ use Rattle.card.specs.declared.Cursor.{Cursor}
 use Rattle.weave.specs.declared.Slot.{Slot}
 use Rattle.weave.specs.Table.{hasHandle}
 use Rattle.weave.specs.Args.{openArgs, nextArgs, bytesAt}
-use Rattle.host.specs.Paging.{nextList, nextPart}
+use Rattle.reads.specs.Paging.{nextList, nextPart}
 use Rattle.promises.specs.Box.{World, Op, Begin, Ingress, Write, Read, Open, Next, Close, Return, LookUp, step, isRefused}
 
 -- a turn ends with a return: within it anything else may be called
