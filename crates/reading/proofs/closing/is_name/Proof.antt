@@ -1,0 +1,12 @@
+-- `reading::closing::is_name` meets its contract. Assumes nothing.
+use Rattle.reading.specs.Readings.{nameMark, isName}
+use borrow.Author.Needs.{needs}
+use Rattle.reading.proofs.closing.is_name.Statement.{statement}
+use Rattle.reading.proofs.closing.is_name.Tie as tie
+
+returns : tie.Need-returns
+unfolding isName nameMark
+returns c = simp (c .starts-with .ensures)
+
+pub is-name-spec : {M : Type 1} → statement M
+is-name-spec = tie.close (tie.spec (λ c. search needs) (λ c κs. search needs) returns)
