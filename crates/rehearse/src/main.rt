@@ -1,5 +1,5 @@
 // The rehearsal: standard input to standard output.
-use reading::standing::all;
+use pieces::standing::all;
 
 fn main() {
     all(false);
