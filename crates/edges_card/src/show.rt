@@ -1,12 +1,12 @@
 // A page: its bytes and the numbers of its records, and where the cursor then stands.
-use crate::say::number;
-use crate::say::word;
 use card::Cursor;
 use card::Page;
 use card::Wanted;
 use manifest::Manifest;
 use record::EventId;
 use record::Header;
+use saying::number;
+use saying::word;
 
 // The cursor after a page, and whether the list had ended.
 pub(crate) struct Step {
