@@ -1,19 +1,13 @@
-// The records that the cases are about: six of the card, numbered from 1, and behind them, as a commit would append them, two that are staged.
+// The card that the cases are about.
+use cases::number;
 use record::EventId;
 use record::Header;
 use record::VirtualTime;
+use text::lines::field;
 
-fn head(id: u64, flags: u32, agent: u64) -> Header {
-    Header {
-        id: EventId(id),
-        flags,
-        time: VirtualTime(5000),
-        agent,
-    }
-}
-
-// A record behind the first `at` bytes, where there is room; where it ends.
-fn add(part: &mut [u8], at: usize, h: Header, topic: &[u8], payload: &[u8]) -> usize {
+// The record of a line behind the first `at` bytes, where there is room; where it ends.
+fn add(card: &mut [u8], at: usize, l: &[u8], payload: &[u8]) -> usize {
+    let topic = field(l, 4);
     if 2048 < topic.len() {
         return at;
     }
@@ -21,16 +15,25 @@ fn add(part: &mut [u8], at: usize, h: Header, topic: &[u8], payload: &[u8]) -> u
         return at;
     }
     let n = text::sizes::total_len(topic.len() as u32, payload.len() as u32) as usize;
-    if part.len() < at {
+    if card.len() < at {
         return at;
     }
-    if part.len() - at < n {
+    if card.len() - at < n {
         return at;
     }
     let mut trace = [0x77u8; 32];
     le::put_u64(&mut trace, 0, 0x1112_1314_1516_1718);
-    record::put::put_record(part, at, h, &trace, topic, payload);
+    record::put::put_record(card, at, head(l), &trace, topic, payload);
     at + n
+}
+
+fn head(l: &[u8]) -> Header {
+    Header {
+        id: EventId(number(l, 1)),
+        flags: cases::half(l, 2),
+        time: VirtualTime(5000),
+        agent: number(l, 3),
+    }
 }
 
 // The string `abc` as it is stored.
@@ -43,39 +46,14 @@ fn stored(out: &mut [u8]) {
     value::store::store_value(&memory, 8, out, 0);
 }
 
-fn three(card: &mut [u8]) -> usize {
-    let two = add(card, 0, head(1, 1, 1), b"loop/take", b"verse");
-    let three = add(card, two, head(2, 1, 1), b"loop/take", b"chorus");
-    add(card, three, head(3, 1, 0), b"a", le::front(b"-", 0))
+// record id flags agent topic payload
+pub(crate) fn record(l: &[u8], card: &mut [u8], at: usize) -> usize {
+    add(card, at, l, field(l, 5))
 }
 
-fn string(card: &mut [u8], at: usize) -> usize {
+// string id flags agent topic: its payload is the string.
+pub(crate) fn string(l: &[u8], card: &mut [u8], at: usize) -> usize {
     let mut payload = [0u8; 35];
     stored(&mut payload);
-    add(card, at, head(4, 2, 2), b"loop/mix", &payload)
-}
-
-fn last(card: &mut [u8], at: usize) -> usize {
-    let next = add(
-        card,
-        at,
-        head(5, 9, 16),
-        b"loop/take/2",
-        b"seventeen letters",
-    );
-    let bytes = b"0123456789abcdef0123456789abcdef0123456789abcdef0123456789abcdef";
-    add(card, next, head(6, 1, 3), b"loop/take", bytes)
-}
-
-fn staged(card: &mut [u8], at: usize) -> usize {
-    let next = add(card, at, head(7, 1, 1), b"loop/take", b"bridge");
-    add(card, next, head(8, 1, 0), b"a", b"x")
-}
-
-// Six records, of 152, 152, 136, 176, 168 and 208 bytes: 992 in all. Then two, of 152 and 144: 1288.
-pub(crate) fn all(card: &mut [u8]) {
-    let four = three(card);
-    let five = string(card, four);
-    let seven = last(card, five);
-    staged(card, seven);
+    add(card, at, l, &payload)
 }

@@ -1,10 +1,8 @@
 // The chain that a part is, and its numbers.
-use crate::build;
-use crate::input;
-use crate::say::number;
-use crate::say::word;
 use card::Chain;
 use record::EventId;
+use saying::number;
+use saying::word;
 
 // From the number first on, and whether up to next.
 pub(crate) fn chain(s: &[u8], first: u64, next: u64) {
@@ -30,9 +28,7 @@ pub(crate) fn chain(s: &[u8], first: u64, next: u64) {
 }
 
 // chain at n first next: of n bytes from `at` on.
-pub(crate) fn case(l: &[u8]) {
-    let mut card = [0u8; 1400];
-    build::all(&mut card);
-    let s = le::cut(&card, input::size(l, 1), input::size(l, 2));
-    chain(s, input::number(l, 3), input::number(l, 4));
+pub(crate) fn case(l: &[u8], card: &[u8]) {
+    let s = le::cut(card, cases::size(l, 1), cases::size(l, 2));
+    chain(s, cases::number(l, 3), cases::number(l, 4));
 }

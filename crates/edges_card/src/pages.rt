@@ -1,6 +1,4 @@
 // What cursors and reads list, page by page.
-use crate::build;
-use crate::input;
 use crate::show;
 use crate::show::Step;
 use card::Cursor;
@@ -18,46 +16,44 @@ fn cursor(l: &[u8]) -> Cursor {
     Cursor {
         filter,
         size: f.len(),
-        from: EventId(input::number(l, 5)),
-        to: EventId(input::number(l, 6)),
-        limit: input::number(l, 7),
-        desc: input::number(l, 8) == 1,
+        from: EventId(cases::number(l, 5)),
+        to: EventId(cases::number(l, 6)),
+        limit: cases::number(l, 7),
+        desc: cases::number(l, 8) == 1,
     }
 }
 
 // Of the first n bytes of the card, whose records are numbered up to `next`, for a module: 1 may list one topic, 2 none, 3 all four.
-fn one(l: &[u8], c: Cursor) -> Step {
-    let mut card = [0u8; 1400];
-    build::all(&mut card);
+fn one(l: &[u8], card: &[u8], c: Cursor) -> Step {
     let text =
         b"modules\t3\ngrant\t1\tin\tloop/take\ngrant\t2\tout\tloop/take\ngrant\t3\tin\tloop/take\ngrant\t3\tin\ta\ngrant\t3\tin\tloop/mix\ngrant\t3\tin\tloop/take/2\n";
-    let w = Wanted::Granted(input::number(l, 3));
-    let s = le::front(&card, input::size(l, 1));
-    let cap = input::size(l, 9);
+    let w = Wanted::Granted(cases::number(l, 3));
+    let s = le::front(card, cases::size(l, 1));
+    let cap = cases::size(l, 9);
     show::page(
         s,
         1,
-        input::number(l, 2),
+        cases::number(l, 2),
         text,
         w,
         c,
         cap,
-        input::size(l, 10),
+        cases::size(l, 10),
     )
 }
 
 // page n next module filter from to limit desc cap out
-pub(crate) fn page(l: &[u8]) {
-    one(l, cursor(l));
+pub(crate) fn page(l: &[u8], card: &[u8]) {
+    one(l, card, cursor(l));
 }
 
 // The same, page after page until the list has ended, 8 at most.
-pub(crate) fn pages(l: &[u8]) {
+pub(crate) fn pages(l: &[u8], card: &[u8]) {
     let mut at = cursor(l);
     let mut i: u64 = 0;
     while i < 8 {
         i += 1;
-        let step = one(l, at);
+        let step = one(l, card, at);
         at = step.cursor;
         if step.ended {
             return;
@@ -66,12 +62,10 @@ pub(crate) fn pages(l: &[u8]) {
 }
 
 // read topic start cap out: of the staged records.
-pub(crate) fn read(l: &[u8]) {
-    let mut card = [0u8; 1400];
-    build::all(&mut card);
-    let c = Cursor::reading(EventId(input::number(l, 2)));
-    let s = le::cut(&card, 992, 296);
-    let cap = input::size(l, 3);
+pub(crate) fn read(l: &[u8], card: &[u8]) {
+    let c = Cursor::reading(EventId(cases::number(l, 2)));
+    let s = le::cut(card, 992, 296);
+    let cap = cases::size(l, 3);
     show::page(
         s,
         7,
@@ -80,6 +74,6 @@ pub(crate) fn read(l: &[u8]) {
         Wanted::Exactly,
         c,
         cap,
-        input::size(l, 4),
+        cases::size(l, 4),
     );
 }

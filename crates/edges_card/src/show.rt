@@ -1,12 +1,13 @@
 // A page: its bytes and the numbers of its records, and where the cursor then stands.
-use crate::say::number;
-use crate::say::word;
 use card::Cursor;
 use card::Page;
+use card::Query;
 use card::Wanted;
 use manifest::Manifest;
 use record::EventId;
 use record::Header;
+use saying::number;
+use saying::word;
 
 // The cursor after a page, and whether the list had ended.
 pub(crate) struct Step {
@@ -126,9 +127,17 @@ pub(crate) fn page(
     let e = EventId(next);
     if card::walk::chain_to(s, a, e) {
         let grants = Manifest::read(text);
-        let p = card::pages::measure(s, a, e, text, grants, w, c, cap);
+        let q = Query {
+            first: a,
+            next: e,
+            grants,
+            wanted: w,
+            cursor: c,
+            cap,
+        };
+        let p = card::pages::measure(s, text, text, q);
         let mut memory = [0xEEu8; 2048];
-        let after = card::pages::copy_page(s, a, e, text, grants, w, c, &mut memory, out, cap);
+        let after = card::pages::copy_page(s, text, text, q, &mut memory, out);
         let ended = found(p, &memory, out);
         stands(after);
         return Step {

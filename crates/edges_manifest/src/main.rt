@@ -1,38 +1,69 @@
-// Manifests at the edges of what document 01 says of them, one line each: what a text is read as, and what it grants. `stdout` was made from document 01
-// by other means than this program. (A function makes few calls, as a long one takes long to check.)
-mod grants;
-mod limits;
-mod line_one;
-mod questions;
+// Manifests at the edges of what document 01 says of them: what a text is read as, and what it grants. Each line of the input is a step; `stdout` was made
+// from document 01 by other means than this program. In a text `|` stands for a tab, `;` for byte 10, and `<1f>` for a byte that is no sign of ASCII.
+//
+// read text                 the text, and what it is read as
+// new text                  a text to be added to: nothing is said
+// add times text            behind it, so many times
+// grants times n            behind it, so many grants with a topic of n bytes
+// ask label                 what it is read as
+// in, out module topic      what it grants
+// label text                the text alone, for the next question
+// hand in, out module topic what a manifest grants that no text was read to
+mod making;
 mod show;
 
-fn reading() {
-    line_one::counts();
-    line_one::numbers();
-    line_one::ends();
-    line_one::fields();
-    line_one::other_lines();
-    grants::good();
-    grants::good_topics();
-    grants::numbers();
-    grants::fields();
-    grants::bad_topics();
-    grants::ends();
-    limits::lines();
-    limits::sizes();
+use cases::size;
+use cases::which;
+use text::lines::field;
+use text::lines::line;
+
+// What changes the text: how long it then is.
+fn made(k: usize, l: &[u8], text: &mut [u8], n: usize) -> usize {
+    match k {
+        0 => making::add(text, 0, field(l, 1)),
+        1 => making::add(text, 0, field(l, 1)),
+        2 => making::repeat(text, n, field(l, 2), size(l, 1)),
+        3 => making::grants(text, n, size(l, 1), size(l, 2)),
+        _ => n,
+    }
 }
 
-fn asking() {
-    questions::modules();
-    questions::topics();
-    questions::core_out();
-    questions::core_in();
-    questions::bad_manifest();
-    questions::last_of_64();
-    questions::made_by_hand();
+// What is said of it.
+fn said(k: usize, l: &[u8], text: &[u8]) {
+    match k {
+        0 => show::answer(field(l, 1), text),
+        4 => show::answer(field(l, 1), text),
+        5 => show::granted(l, text, false),
+        6 => show::granted(l, text, true),
+        7 => saying::word(field(l, 1)),
+        8 => show::by_hand(l),
+        _ => {}
+    }
+}
+
+fn step(l: &[u8], text: &mut [u8], n: usize) -> usize {
+    let k = which(
+        b"read\tnew\tadd\tgrants\task\tin\tout\tlabel\thand",
+        field(l, 0),
+    );
+    let end = made(k, l, text, n);
+    said(k, l, le::front(text, end));
+    end
+}
+
+fn each(input: &[u8], text: &mut [u8]) {
+    let mut n: usize = 0;
+    let mut at: usize = 0;
+    while at < input.len() {
+        let l = line(input, at);
+        n = step(l, text, n);
+        at += l.len() + 1;
+    }
 }
 
 fn main() {
-    reading();
-    asking();
+    let mut buffer = io::large_buffer();
+    let n = io::read_full(0, &mut buffer);
+    let mut text = [0u8; 132000];
+    each(&buffer[..n], &mut text);
 }

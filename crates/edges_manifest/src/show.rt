@@ -1,78 +1,63 @@
 // What is written: a case, and the answer.
-use libc::STDOUT_FILENO;
+use cases::number;
 use manifest::Manifest;
+use manifest::grant::Grant;
+use saying::word;
+use text::compare::same;
+use text::lines::field;
 
-pub(crate) fn say(bytes: &[u8]) {
-    io::write_all(STDOUT_FILENO, bytes);
-}
-
-fn number(n: u64) {
-    io::print_decimal(STDOUT_FILENO, n);
-}
-
-// A tab is shown as `|`, byte 10 as `;`, any other byte that is no letter, digit or sign of ASCII by its number, as `<1f>`.
-fn byte(b: u8) {
-    if b == b'\t' {
-        say(b"|");
-    } else if b == b'\n' {
-        say(b";");
-    } else if (b < 32) | (126 < b) {
-        say(b"<");
-        io::print_hex(STDOUT_FILENO, b as u64, 2);
-        say(b">");
-    } else {
-        let one = [b];
-        say(&one);
-    }
-}
-
-fn bytes(s: &[u8]) {
-    let mut i = 0;
-    while i < s.len() {
-        byte(s[i]);
-        i += 1;
-    }
-}
-
-// What a text is read as.
-pub(crate) fn answer(text: &[u8]) {
+// What a text is read as, behind its name.
+pub(crate) fn answer(label: &[u8], text: &[u8]) {
+    word(label);
     let m = Manifest::read(text);
     if m.good {
-        say(b": good, modules ");
-        number(m.modules);
-        say(b", grants ");
-        number(m.count as u64);
-        say(b"\n");
-    } else {
-        say(b": bad\n");
+        word(b": good, modules");
+        saying::number(m.modules);
+        word(b", grants");
+        saying::number(m.count as u64);
+        word(b"\n");
+        return;
     }
+    word(b": bad\n");
 }
 
-pub(crate) fn read(text: &[u8]) {
-    bytes(text);
-    answer(text);
-}
-
-// What a manifest of the text answers; `out` or else `in`.
-pub(crate) fn ask(m: Manifest, text: &[u8], module: u64, out: bool, topic: &[u8]) {
-    number(module);
+// What a manifest of the text grants a module; `out` or else `in`.
+fn ask(m: Manifest, text: &[u8], module: &[u8], out: bool, topic: &[u8]) {
+    word(module);
     if out {
-        say(b" out ");
+        word(b" out ");
     } else {
-        say(b" in ");
+        word(b" in ");
     }
-    bytes(topic);
-    if m.granted(text, module, out, topic) {
-        say(b": yes\n");
-    } else {
-        say(b": no\n");
-    }
+    word(topic);
+    saying::answer(m.granted(text, number(module, 0), out, topic));
 }
 
-pub(crate) fn grants_in(text: &[u8], module: u64, topic: &[u8]) {
-    ask(Manifest::read(text), text, module, false, topic);
+// in, out module topic: of the text.
+pub(crate) fn granted(l: &[u8], text: &[u8], out: bool) {
+    ask(Manifest::read(text), text, field(l, 1), out, field(l, 2));
 }
 
-pub(crate) fn grants_out(text: &[u8], module: u64, topic: &[u8]) {
-    ask(Manifest::read(text), text, module, true, topic);
+// hand in, out module topic: of a manifest that no text was read to, with places and a count beyond everything.
+pub(crate) fn by_hand(l: &[u8]) {
+    let far = Grant {
+        holder: 1,
+        out: false,
+        start: 0xFFFF_FFFF_FFFF_FFFF,
+        len: 0xFFFF_FFFF_FFFF_FFFF,
+    };
+    let m = Manifest {
+        good: true,
+        modules: 1,
+        count: 0xFFFF_FFFF_FFFF_FFFF,
+        grants: [far; 64],
+    };
+    word(b"made by hand: ");
+    ask(
+        m,
+        b"modules\t1\n",
+        field(l, 2),
+        same(field(l, 1), b"out"),
+        field(l, 3),
+    );
 }

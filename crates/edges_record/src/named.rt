@@ -1,7 +1,8 @@
 // Topics, and which agent may have the panic topic.
 use crate::samples;
-use crate::say;
 use record::EventId;
+use saying::number;
+use saying::word;
 
 // A record of an agent, with flags 1 and no payload, is good.
 fn sound(topic: &[u8], agent: u64) -> bool {
@@ -15,29 +16,18 @@ fn sound(topic: &[u8], agent: u64) -> bool {
     record::good::good_record(le::front(&b, n), EventId(9))
 }
 
-fn named(topic: &[u8], agent: u64) {
-    say::text(b"agent");
-    say::number(agent);
-    say::text(b", topic ");
-    say::text(topic);
-    say::good(sound(topic, agent));
+pub fn named(topic: &[u8], agent: u64) {
+    word(b"agent");
+    number(agent);
+    word(b", topic ");
+    word(topic);
+    saying::good(sound(topic, agent));
 }
 
-fn long() {
+// A topic of so many `a`s.
+pub fn long(n: usize) {
     let a = [97u8; 2049];
-    say::text(b"a topic of 2048");
-    say::good(sound(le::front(&a, 2048), 1));
-    say::text(b"a topic of 2049");
-    say::good(sound(&a, 1));
-}
-
-pub fn run() {
-    named(b"filament/core/panic", 0);
-    named(b"filament/core/panic", 1);
-    named(b"filament/core/pani", 1);
-    named(b"filament/core/panics", 1);
-    named(b"filament/core/log", 1);
-    named(b"\xC3\xA9", 1);
-    named(b"", 1);
-    long();
+    word(b"a topic of");
+    number(n as u64);
+    saying::good(sound(le::front(&a, n), 1));
 }

@@ -7,20 +7,20 @@
 // 5  a boolean: flags 2, module 2, topic `a`, true
 // 6  a byte array: flags 10, module 1, topic `loop/key`, 2 bytes that are no UTF-8
 // 7  an empty string: flags 2, module 1, topic `a`
-use crate::say;
 use record::EventId;
 use record::Header;
 use record::VirtualTime;
+use saying::word;
 
 pub fn name(sample: u32) {
     match sample {
-        1 => say::text(b"raw"),
-        2 => say::text(b"ingress"),
-        3 => say::text(b"string"),
-        4 => say::text(b"float"),
-        5 => say::text(b"boolean"),
-        6 => say::text(b"byte array"),
-        _ => say::text(b"empty string"),
+        1 => word(b"raw"),
+        2 => word(b"ingress"),
+        3 => word(b"string"),
+        4 => word(b"float"),
+        5 => word(b"boolean"),
+        6 => word(b"byte array"),
+        _ => word(b"empty string"),
     }
 }
 

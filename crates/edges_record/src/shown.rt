@@ -1,7 +1,8 @@
 // Records handed to a module.
 use crate::samples;
-use crate::say;
 use record::EventId;
+use saying::number;
+use saying::word;
 
 // A memory that has 5a in every byte, with a good record at an address.
 fn placed(r: &[u8], id: EventId, at: usize) -> [u8; 512] {
@@ -26,11 +27,11 @@ pub fn shown(sample: u32, flags: u32, address: u64) {
     let h = samples::head(sample);
     let r = le::cut(&b, 8, samples::size(sample));
     let m = placed(r, h.id, at);
-    say::text(b", flags");
-    say::number(flags as u64);
-    say::text(b", at");
-    say::number(address);
-    say::text(b":");
-    say::bytes(le::cut(&m, at, 184));
-    say::text(b"\n");
+    word(b", flags");
+    number(flags as u64);
+    word(b", at");
+    number(address);
+    word(b":");
+    saying::bytes(le::cut(&m, at, 184));
+    word(b"\n");
 }

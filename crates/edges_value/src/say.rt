@@ -1,41 +1,21 @@
-// What a line is made of.
-use libc::STDOUT_FILENO;
+// What only these answers are made of.
+use saying::pattern;
+use saying::word;
 use value::Fault;
-
-pub fn text(s: &[u8]) {
-    io::write_all(STDOUT_FILENO, s);
-}
-
-// A count.
-pub fn count(n: u64) {
-    io::print_decimal(STDOUT_FILENO, n);
-}
-
-// A pattern, behind a blank.
-pub fn pattern(n: u64) {
-    text(b" ");
-    io::print_hex(STDOUT_FILENO, n, 1);
-}
-
-// A byte, behind a blank.
-pub fn byte(b: u8) {
-    text(b" ");
-    io::print_hex(STDOUT_FILENO, b as u64, 2);
-}
 
 pub fn code(f: Fault) {
     match f {
-        Fault::Fine => text(b"0"),
-        Fault::Outside => text(b"-5"),
-        Fault::Unfit => text(b"-7"),
+        Fault::Fine => word(b" 0"),
+        Fault::Outside => word(b" -5"),
+        Fault::Unfit => word(b" -7"),
     }
 }
 
 pub fn good(yes: bool) {
     if yes {
-        text(b"good");
+        word(b" good");
     } else {
-        text(b"not good");
+        word(b" not good");
     }
 }
 
@@ -50,9 +30,7 @@ pub fn numbers(out: &[u8; 2100]) {
 
 // The four bytes behind them; a5 is a byte that nobody wrote.
 pub fn behind(out: &[u8; 2100]) {
-    text(b", then");
-    byte(out[40]);
-    byte(out[41]);
-    byte(out[42]);
-    byte(out[43]);
+    word(b", then");
+    saying::bytes(le::cut(out, 40, 4));
+    word(b";");
 }

@@ -36,11 +36,11 @@ fn answered(
     at: u64,
 ) -> Answer {
     match k {
-        2 => h.read(memory, staging, card, text, at),
+        2 => reads::read::read(h, memory, staging, card, text, at),
         3 => h.open(memory, staging, card, text, at),
-        4 => h.next(memory, staging, card, text, at),
+        4 => reads::next::next(h, memory, staging, card, text, at),
         5 => h.close(memory, staging, card, text, at),
-        _ => h.write(memory, staging, card, text, at),
+        _ => writes::write::write(h, memory, staging, card, text, at),
     }
 }
 
@@ -73,7 +73,7 @@ pub(crate) fn ingress(
 ) -> Host {
     let topic = le::cut(memory, TOPIC, word_at(memory, 16) as usize);
     let payload = le::cut(memory, DATA, word_at(memory, 32) as usize);
-    let a = h.ingress(staging, card, text, topic, payload);
+    let a = writes::stage::ingress(h, staging, card, text, topic, payload);
     let c = a.code;
     say::answer(c, a.value);
     a.host
@@ -81,7 +81,7 @@ pub(crate) fn ingress(
 
 // mount used
 pub(crate) fn mount(l: &[u8], staging: &[u8], card: &[u8], text: &[u8]) -> Host {
-    let m = Host::mount(staging, card, text, number(l, 1) as usize);
+    let m = mounts::mount::mount(staging, card, text, number(l, 1) as usize);
     let c = m.code;
     say::answer(c, 0);
     say::word(b" at");
@@ -138,7 +138,7 @@ pub(crate) fn ending(h: Host, l: &[u8], staging: &mut [u8], card: &mut [u8], tex
 // lookup id: how long the record is, its own number, and the sum of its bytes.
 pub(crate) fn look_up<'a>(h: Host, l: &[u8], staging: &'a [u8], card: &'a [u8], text: &[u8]) {
     let id = EventId(number(l, 1));
-    let r = h.look_up(staging, card, text, id);
+    let r = mounts::look::look_up(h, staging, card, text, id);
     if r.len() == 0 {
         say::word(b" none");
         return;

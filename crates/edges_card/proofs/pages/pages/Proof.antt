@@ -1,15 +1,15 @@
 -- `edges_card::pages::pages` is safe and ends. Assumes nothing but what `io` does of the C library.
-use Prim.Native.Nat.{_≤_, _-_}
 use native.Mathlib.Omega.{arith}
 use borrow.Author.Needs.{needs}
+use Prim.Native.Nat.{_≤_, _<_, _+_, _-_}
 use Rattle.edges_card.proofs.pages.pages.Statement.{statement}
 use Rattle.edges_card.proofs.pages.pages.Tie as tie
 
 abbrev Inv-loop : tie.InvT-loop
-Inv-loop l at₀ i₀ at i = i ≤ 8
+Inv-loop l card at₀ i₀ at i = i ≤ 8
 
 abbrev μ-loop : tie.MeasureT-loop
-μ-loop l at₀ i₀ at i = 8 - i
+μ-loop l card at₀ i₀ at i = 8 - i
 
 cursor-requires : tie.Need-cursor-requires Inv-loop μ-loop
 cursor-requires c κs = search needs

@@ -1,0 +1,3 @@
+pub mod PieceLaws
+pub mod StepLaws
+pub mod LineLaws
