@@ -1,7 +1,7 @@
--- What an accepted call answers.
+-- What an accepted call answers, and whether ingress is too late after it.
 -- Assumes nothing.
-use mathlib.Core.Path.{_≡_, refl, sym, _∙_}
-use mathlib.Core.Bool.{false, not}
+use mathlib.Core.Path.{_≡_, refl, sym, _∙_, ap}
+use mathlib.Core.Bool.{false, not, Bool, true, true≢false}
 use mathlib.Core.List.{List}
 use Prim.Native.Nat.{ℕ}
 use Rattle.card.specs.Records.{size}
@@ -12,19 +12,25 @@ use Rattle.weave.specs.Codes.{isFine}
 use Rattle.weave.proofs.CodeLaws.{first-left}
 use Rattle.takes.specs.Pages.{pageBytes}
 use Rattle.host.specs.declared.Host.{Host}
-use Rattle.host.specs.Hosts.{settle}
+use Rattle.host.specs.Hosts.{settle, withWeave}
 use Rattle.host.specs.Begin.{beginAnswer}
-use Rattle.writes.specs.Stage.{ingressAnswer, writeAnswer}
+use Rattle.writes.specs.Stage.{ingressAnswer, writeAnswer, isPanic, panicked, written}
 use Rattle.reads.specs.Reading.{readSound, readCheck, readAnswer}
-use Rattle.host.specs.Cursors.{openAnswer, closeAnswer}
-use Rattle.reads.specs.Paging.{nextSound, nextCheck, nextAnswer}
-use Rattle.promises.specs.Box.{World, Op, Begin, Ingress, Write, Read, Open, Next, Close, Return, LookUp, step, isRefused}
-use Rattle.promises.specs.Checks.{answers}
+use Rattle.host.specs.Cursors.{openAnswer, closeAnswer, openNext, closeNext}
+use Rattle.reads.specs.Paging.{nextSound, nextCheck, nextAnswer, nextHost}
+use Rattle.promises.specs.Box.{World, Op, Begin, Ingress, Write, Read, Open, Next, Close, Return, LookUp, step, isRefused, Ended}
+use Rattle.promises.specs.Checks.{answers, tooLate}
 use Rattle.promises.specs.Diary.{answerOf}
 use Rattle.promises.proofs.AcceptedLaws.{settle-ok}
 use Rattle.promises.proofs.AcceptedHolds.{open-exactly, next-page, read-page}
 use Rattle.promises.proofs.RefusalHolds.{page-long}
 use Rattle.promises.proofs.TidyHolds.{handle-new}
+use Rattle.weave.specs.States.{freshWeave, begunWeave, paid, holding, tabled, spoilt, turned}
+use Rattle.weave.specs.Moves.{openedWith, movedTo, closedAt}
+use Rattle.takes.specs.Begun.{begun}
+use Rattle.host.specs.declared.Fate.{Fate}
+use Rattle.host.specs.declared.Fate.the-variants.{Refused, Discarded, Running, Committed}
+use Rattle.host.specs.Ending.{fateOf, committed, finished, returnAnswer}
 
 value-is : (h : Host) (c : Code) (v : ℕ) (next : Host) → not (isFine (settle h c v next .code)) ≡ false → settle h c v next .value ≡ v
 unfolding settle
@@ -50,3 +56,40 @@ answers-are w (Next m a) e =
 answers-are w (Close m a) e = value-is (w .host) _ 0 _ e
 answers-are w (Return code) e = refl
 answers-are w (LookUp id) e = refl
+
+-- ---- ingress
+
+-- the state that an accepted call leaves
+host-is : (h : Host) (c : Code) (v : ℕ) (next : Host) → not (isFine (settle h c v next .code)) ≡ false → settle h c v next .host ≡ next
+unfolding settle
+host-is h c v next e = rw (settle-ok h c v next e)
+
+late-of : (h : Host) (c : Code) (v : ℕ) (next : Host) → not (isFine (settle h c v next .code)) ≡ false → settle h c v next .host .weave .late ≡ next .weave .late
+late-of h c v next e = ap (λ (x : Host). x .weave .late) (host-is h c v next e)
+
+-- a write, panic or not
+written-late : (h : Host) (panic : Bool) (t d n : ℕ) → written h panic t d n .weave .late ≡ true
+unfolding written panicked withWeave holding paid spoilt
+written-late h true t d n = refl
+written-late h false t d n = refl
+
+-- a return, by what came of it
+fate-late : (h : Host) (f : Fate) → isRefused (Ended f) ≡ false → finished h f .weave .running ≡ true → finished h f .weave .late ≡ true
+unfolding finished committed withWeave turned freshWeave
+fate-late h (Refused c) e r = absurd (true≢false e)
+fate-late h (Discarded c) e r = absurd (true≢false (sym r))
+fate-late h Running e r = refl
+fate-late h (Committed events bytes) e r = absurd (true≢false (sym r))
+
+-- THE PROMISE
+pub late-is : (w : World) (o : Op) → isRefused (step w o .said) ≡ false → step w o .world .host .weave .running ≡ true → step w o .world .host .weave .late ≡ tooLate w o
+unfolding step beginAnswer ingressAnswer writeAnswer readAnswer openAnswer openNext nextAnswer nextHost closeAnswer closeNext returnAnswer withWeave begun begunWeave holding paid openedWith movedTo closedAt tabled
+late-is w (Begin args) e r = late-of (w .host) _ 0 _ e
+late-is w (Ingress topic payload) e r = late-of (w .host) _ 0 _ e
+late-is w (Write m a) e r = late-of (w .host) _ 0 _ e ∙ written-late (w .host) (isPanic m a) _ _ _
+late-is w (Read m a) e r = late-of (w .host) (readCheck (w .lent) (w .host) m a) _ _ e
+late-is w (Open m a) e r = late-of (w .host) _ _ _ e
+late-is w (Next m a) e r = late-of (w .host) (nextCheck (w .lent) (w .host) m a) _ _ e
+late-is w (Close m a) e r = late-of (w .host) _ 0 _ e
+late-is w (Return code) e r = fate-late (w .host) (fateOf (w .lent) (w .host) code) e r
+late-is w (LookUp id) e r = refl

@@ -19,11 +19,11 @@ use Rattle.host.specs.Hosts.{Lent, withWeave}
 use Rattle.host.specs.Ending.{fateOf, committed, finished, returnAnswer, returnCard, returnStaging}
 use Rattle.promises.specs.Box.{World, Op, Return, Ended, step, run}
 use Rattle.promises.specs.Outcome.{SameCard, saysCommitted, NoneCommitted, Appended, butFaulted}
-use Rattle.promises.proofs.RefusalHolds.{laid-there}
 use Rattle.promises.proofs.AcceptedLaws.{lawful}
 use Rattle.promises.proofs.OutcomeHolds.{fateIn, conditions}
 use Rattle.promises.proofs.MoveLaws.{Move, Rests, Begins, GoesOn, Commits, Discards, after}
 use Rattle.promises.proofs.MovesHold.{moved}
+use Rattle.promises.proofs.RefusalHolds.{laid-there}
 
 -- ---- nothing but a commit changes the card
 

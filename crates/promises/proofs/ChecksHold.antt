@@ -50,7 +50,7 @@ fine-is Budget e = absurd (true≢false (sym e))
 fine-is BadValue e = absurd (true≢false (sym e))
 
 -- none of the codes is Fine
-abbrev proper : List Check → Bool
+abbrev pub proper : List Check → Bool
 proper [] = true
 proper (c ∷ cs) = not (isFine (c .code)) && proper cs
 
@@ -132,7 +132,10 @@ module _ (w : World) where
 
   pub ingress-code : (topic payload : List ℕ) → Comes (ingressCheck l h topic payload) (checksOf w (Ingress topic payload))
   unfolding ingressChecks lentCheck
-  ingress-code topic payload = then _ Bad _ _ refl (joined (check (h .weave .running) NotNow ∷ check (not (h .weave .late)) NotNow ∷ []) _ _ _ refl (two (h .weave .running) (not (h .weave .late)) NotNow) (then _ Bad _ _ refl (last _ NoRoom)))
+  ingress-code topic payload =
+      then _ Bad _ _ refl
+      (joined (check (h .weave .running) NotNow ∷ check (not (h .weave .late)) NotNow ∷ []) _ _ _ refl
+      (two (h .weave .running) (not (h .weave .late)) NotNow) (then _ Bad _ _ refl (last _ NoRoom)))
 
   module _ (m : List ℕ) (a : ℕ) where
     gate-code : Comes (gateCheck l h (length m)) (gate w m)
@@ -225,7 +228,7 @@ judged w (LookUp id) = record { code = refl; refusal = refl; coded = refl }
 pub code-is : (w : World) (o : Op) → codeOf (step w o .said) ≡ failing (checksOf w o)
 code-is w o = judged w o .code
 
-all-passed : (cs : List Check) → proper cs ≡ true → isFine (failing cs) ≡ true → All Passed cs
+pub all-passed : (cs : List Check) → proper cs ≡ true → isFine (failing cs) ≡ true → All Passed cs
 all-passed [] p e = tt
 all-passed (k ∷ ks) p e = go (k .asks) refl e (all-passed ks (and-right (not (isFine (k .code))) _ p))
   where

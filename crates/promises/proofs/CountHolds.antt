@@ -7,8 +7,7 @@ use Prim.Native.Nat.{ℕ, _+_, _≤_, _<_}
 use native.Mathlib.Omega.{arith}
 use native.Mathlib.Nat.{add-zero}
 use Rattle.manifest.proofs.SayingLaws.{sized}
-use Rattle.weave.specs.Moves.{openedWith, movedTo, closedAt}
-use Rattle.weave.specs.States.{freshWeave, paid, holding, tabled, spoilt, turned}
+use Rattle.weave.specs.States.{freshWeave}
 use Rattle.weave.proofs.SumLaws.{added-sum}
 use Rattle.host.specs.Hosts.{withWeave}
 use Rattle.host.specs.Ending.{committed}
@@ -16,7 +15,7 @@ use Rattle.promises.specs.Box.{World, Op, Begin, step, isRefused, run}
 use Rattle.promises.specs.Outcome.{moduleCount, returnsIn, RunsOn}
 use Rattle.promises.proofs.AcceptedLaws.{lawful}
 use Rattle.promises.proofs.AcceptedHolds.{begin-exactly}
-use Rattle.promises.proofs.MoveLaws.{Change, Marks, Stages, Writes, Pays, Opens, Hands, Closes, Panics, Turns, Move, Rests, Begins, GoesOn, Commits, Discards, weaveAfter, turnsBy, after, endsTurn}
+use Rattle.promises.proofs.MoveLaws.{Turning, Stays, Turns, Move, Rests, Begins, GoesOn, Commits, Discards, turnAfter, turnsBy, after, endsTurn}
 use Rattle.promises.proofs.MovesHold.{moved}
 use Rattle.promises.proofs.WeaveHolds.{begin-sets}
 
@@ -25,17 +24,9 @@ module _ (w : World) (o : Op) where
   abbrev Turned : ℕ → ℕ → Type 0
   Turned turn more = (turn ≡ w .host .weave .turn + more) × (turn ≤ moduleCount w)
 
-  change-turn : (c : Change w o) → w .host .weave .turn ≤ moduleCount w → Turned (weaveAfter w o c .turn) (cond (turnsBy w o c) 1 0)
-  unfolding spoilt holding paid tabled turned openedWith movedTo closedAt
-  change-turn Marks h = (sym (add-zero _), h)
-  change-turn (Stages r n g) h = (sym (add-zero _), h)
-  change-turn (Writes r n b g) h = (sym (add-zero _), h)
-  change-turn (Pays charge b) h = (sym (add-zero _), h)
-  change-turn (Opens s e f b) h = (sym (add-zero _), h)
-  change-turn (Hands k cap f b) h = (sym (add-zero _), h)
-  change-turn (Closes k f b) h = (sym (add-zero _), h)
-  change-turn Panics h = (sym (add-zero _), h)
-  change-turn (Turns i low) h =
+  turning : (t : Turning w o) → w .host .weave .turn ≤ moduleCount w → Turned (turnAfter w o t) (cond (turnsBy w o t) 1 0)
+  turning Stays h = (sym (add-zero _), h)
+  turning (Turns i low) h =
       let sum = added-sum (w .host .weave .turn) 1 16 (omega (arith, low, sized (w .lent .text) .most)) in
       (sum, rw sum (omega (arith, low)))
 
@@ -44,7 +35,7 @@ module _ (w : World) (o : Op) where
   unfolding withWeave freshWeave committed
   move-turn Rests r q h = (sym (add-zero _), h)
   move-turn (Begins args i b) r q h = absurd (true≢false (sym r ∙ i))
-  move-turn (GoesOn e c) r q h = change-turn c h
+  move-turn (GoesOn e c) r q h = turning (c .turn) h
   move-turn (Commits i s code c) r q h = absurd (true≢false (sym q))
   move-turn (Discards i) r q h = absurd (true≢false (sym q))
 

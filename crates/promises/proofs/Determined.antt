@@ -4,10 +4,10 @@
 use mathlib.Core.Path.{_≡_, sym, _∙_}
 use mathlib.Core.List.{List}
 use Prim.Native.Nat.{ℕ}
+use borrow.Fn.Kinds.{PK, RK, Dens, resT, endedOf, Out}
 use denote.Ref.{now}
 use denote.Triple.Clauses.{AtExit}
 use contract.Lifetimes.{Lfts}
-use borrow.Fn.Kinds.{PK, RK, Dens, resT, endedOf, Out}
 use Rattle.le.proofs as le
 use Rattle.text.proofs as text
 use Rattle.value.proofs as value
@@ -22,22 +22,22 @@ use Rattle.writes.proofs as writes
 use Rattle.reads.proofs as reads
 
 -- two results
-abbrev ResultOnce : {n : ℕ} (ps : List (PK n)) (r : RK n) → Out n ps r → Type 0
+abbrev pub ResultOnce : {n : ℕ} (ps : List (PK n)) (r : RK n) → Out n ps r → Type 0
 ResultOnce {n} ps r Q = (κs : Lfts n) (a : Dens κs ps) (z z′ : resT r κs .Denot) (s s′ : AtExit (endedOf n ps r) κs) → Q κs a z s → Q κs a z′ s′ → z ≡ z′
 
 -- one thing that is seen of two results, or of two exits
-abbrev SeenOnce : {n : ℕ} (ps : List (PK n)) (r : RK n) → Out n ps r → ((κs : Lfts n) → resT r κs .Denot → AtExit (endedOf n ps r) κs → List ℕ) → Type 0
+abbrev pub SeenOnce : {n : ℕ} (ps : List (PK n)) (r : RK n) → Out n ps r → ((κs : Lfts n) → resT r κs .Denot → AtExit (endedOf n ps r) κs → List ℕ) → Type 0
 SeenOnce {n} ps r Q seen =
     (κs : Lfts n) (a : Dens κs ps) (z z′ : resT r κs .Denot) (s s′ : AtExit (endedOf n ps r) κs) → Q κs a z s → Q κs a z′ s′ → seen κs z s ≡ seen κs z′ s′
 
 -- two that are equal to a third, by a contract of one clause, of two, of three
-meet : {A : Type 0} {x y z : A} → x ≡ z → y ≡ z → x ≡ y
+pub meet : {A : Type 0} {x y z : A} → x ≡ z → y ≡ z → x ≡ y
 meet p q = p ∙ sym q
 
-meet-0 : {A B C : Type 0} {x y z : A} → (x ≡ z) × B → (y ≡ z) × C → x ≡ y
+pub meet-0 : {A B C : Type 0} {x y z : A} → (x ≡ z) × B → (y ≡ z) × C → x ≡ y
 meet-0 p q = p .0 ∙ sym (q .0)
 
-meet-1 : {A B C : Type 0} {x y z : A} → B × (x ≡ z) → C × (y ≡ z) → x ≡ y
+pub meet-1 : {A B C : Type 0} {x y z : A} → B × (x ≡ z) → C × (y ≡ z) → x ≡ y
 meet-1 p q = p .1 ∙ sym (q .1)
 
 meet-1-0 : {A B C D E : Type 0} {x y z : A} → B × ((x ≡ z) × C) → D × ((y ≡ z) × E) → x ≡ y

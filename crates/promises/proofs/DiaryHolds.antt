@@ -1,9 +1,9 @@
 -- Promise 2 over the life of a box: it agrees with the diary, after every sequence of calls.
 -- Assumes nothing.
-use mathlib.Core.Path.{_≡_, refl, sym, ap, _∙_}
+use mathlib.Core.Path.{_≡_, refl, ap, _∙_}
 use mathlib.Core.Bool.{Bool, true, false, cond}
 use mathlib.Core.List.{List, [], _∷_, _++_}
-use Prim.Native.Nat.{ℕ, _+_, _/_, _^_, _≤_}
+use Prim.Native.Nat.{ℕ, _+_, _^_, _≤_}
 use native.Mathlib.Omega.{arith}
 use native.Mathlib.Nat.{add-zero, add-assoc}
 use lib.Dec.{leb}
@@ -16,26 +16,23 @@ use Rattle.card.specs.Pick.{All}
 use Rattle.card.specs.Records.{upTo, records}
 use Rattle.card.specs.Walk.{chainTo}
 use Rattle.card.proofs.PickLaws.{all-map}
-use Rattle.card.proofs.WalkLaws.{laid-records, laid-chain, laid-one, laid-next, whole-size, whole-next, to-chain}
+use Rattle.card.proofs.WalkLaws.{laid-records, laid-chain, laid-one, laid-next, to-chain}
 use Rattle.weave.specs.declared.Code.the-variants.{Fine}
 use Rattle.weave.specs.declared.Weave.{Weave}
 use Rattle.weave.specs.Sums.{added}
-use Rattle.weave.specs.Moves.{openedWith, movedTo, closedAt}
-use Rattle.weave.specs.States.{freshWeave, begunWeave, paid, holding, tabled, spoilt, turned}
+use Rattle.weave.specs.States.{freshWeave, begunWeave}
 use Rattle.weave.proofs.SumLaws.{added-sum}
 use Rattle.takes.specs.Begun.{traceOf, begun}
 use Rattle.host.specs.Hosts.{Lent, lentAs, withWeave}
 use Rattle.host.specs.Ending.{committed}
-use Rattle.host.specs.Hosts.{freshHost}
 use Rattle.mounts.specs.Mount.{mounted}
-use Rattle.promises.specs.Box.{World, Op, step, memoryOf, LendsBytes, mountedAs, run}
+use Rattle.promises.specs.Box.{World, recordsOn, Op, step, memoryOf, LendsBytes, mountedAs, run}
 use Rattle.promises.specs.Diary.{Diary, entered, diary, firstPage, Agrees}
 use Rattle.promises.proofs.AcceptedLaws.{lawful}
+use Rattle.promises.proofs.MountHolds.{mount-fine}
 use Rattle.promises.proofs.StagedLaws.{Stageable}
-use Rattle.promises.proofs.MoveLaws.{Affords, Change, Marks, Stages, Writes, Pays, Opens, Hands, Closes, Panics, Turns, Move, Rests, Begins, GoesOn, Commits, Discards, weaveAfter, stagingAfter, entryOf, after, entryBy}
+use Rattle.promises.proofs.MoveLaws.{Affords, Cost, Unpaid, Free, Paid, Staging, Kept, Staged, Move, Rests, Begins, GoesOn, Commits, Discards, unitsAfter, stagedAfter, countAfter, stagingAfter, stagedBy, unitsBy, after, entryBy}
 use Rattle.promises.proofs.MovesHold.{moved}
-use Rattle.promises.proofs.MountLaws.{MountFine, mount-fine}
-use Rattle.promises.proofs.WeaveHolds.{keeps}
 
 -- ---- what is staged
 
@@ -91,40 +88,14 @@ module _ (w : World) (o : Op) (bytes : Bytes (memoryOf o)) (d : Diary) (a : Agre
   abbrev here : Carries (w .lent .staging) (w .host .weave .staged) (w .host .weave .count) (w .host .next .0) (d .staged)
   here = record { within = a .in-staging; chained = a .carried; are = a .staged }
 
-  change-carries : (c : Change w o) → Carries (stagingAfter w o c) (weaveAfter w o c .staged) (weaveAfter w o c .count) (w .host .next .0) (entryOf w o c d .staged)
-  unfolding spoilt holding paid tabled turned openedWith movedTo closedAt
-  change-carries Marks = here
-  change-carries (Stages r n g) = one-more w (d .staged) r n here (g (a .traced))
-  change-carries (Writes r n b g) = one-more w (d .staged) r n here (g bytes (a .traced))
-  change-carries (Pays charge b) = here
-  change-carries (Opens s e f b) = here
-  change-carries (Hands k cap f b) = here
-  change-carries (Closes k f b) = here
-  change-carries Panics = here
-  change-carries (Turns i low) = here
+  staging-carries : (g : Staging w o) → Carries (stagingAfter w o g) (stagedAfter w o g) (countAfter w o g) (w .host .next .0) (stagedBy w o g (d .staged))
+  staging-carries Kept = here
+  staging-carries (Staged r n g) = one-more w (d .staged) r n here (g bytes (a .traced))
 
-  change-units : (c : Change w o) → weaveAfter w o c .units ≡ entryOf w o c d .units
-  unfolding spoilt holding paid tabled turned openedWith movedTo closedAt
-  change-units Marks = a .units
-  change-units (Stages r n g) = a .units
-  change-units (Writes r n b g) = rw (g bytes (a .traced) .long) (charged w d (1 + n / 8) b (a .units))
-  change-units (Pays charge b) = charged w d charge b (a .units)
-  change-units (Opens s e f b) = charged w d 1 b (a .units)
-  change-units (Hands k cap f b) = charged w d _ b (a .units)
-  change-units (Closes k f b) = charged w d 1 b (a .units)
-  change-units Panics = added-nothing (w .host .weave .units) (w .host .weave .resmax) ∙ a .units
-  change-units (Turns i low) = a .units
-
-  change-kept : (c : Change w o) → entryOf w o c d .kept ≡ d .kept
-  change-kept Marks = refl
-  change-kept (Stages r n g) = refl
-  change-kept (Writes r n b g) = refl
-  change-kept (Pays charge b) = refl
-  change-kept (Opens s e f b) = refl
-  change-kept (Hands k cap f b) = refl
-  change-kept (Closes k f b) = refl
-  change-kept Panics = refl
-  change-kept (Turns i low) = refl
+  units-paid : (c : Cost w) → unitsAfter w c ≡ unitsBy w c (d .units)
+  units-paid Unpaid = a .units
+  units-paid Free = added-nothing (w .host .weave .units) (w .host .weave .resmax) ∙ a .units
+  units-paid (Paid charge b) = charged w d charge b (a .units)
 
   -- nothing is staged, in a weave with such a trace
   emptied-agrees : (v : Weave) (staging : List ℕ) → v .staged ≡ 0 → v .count ≡ 0 → v .units ≡ 0 → length (v .trace) ≡ 32
@@ -153,16 +124,16 @@ module _ (w : World) (o : Op) (bytes : Bytes (memoryOf o)) (d : Diary) (a : Agre
   agrees-move (Begins args i b) =
       emptied-agrees (begun args) _ refl refl refl (length-splice (zeros 32) 0 (part 56 32 args) ∙ length-replicate {0} {A = ℕ} 32 0)
   agrees-move (GoesOn r c) =
-      let s = change-carries c in
+      let s = staging-carries (c .staging) in
       record {
         on-card = a .on-card;
         in-staging = s .within;
-        traced = rw (keeps w o c .trace) (a .traced);
+        traced = a .traced;
         chained = a .chained;
-        kept = a .kept ∙ sym (change-kept c);
+        kept = a .kept;
         carried = s .chained;
         staged = s .are;
-        units = change-units c;
+        units = units-paid (c .cost);
       }
   agrees-move (Discards i) = emptied-agrees freshWeave _ refl refl refl fresh-trace
   agrees-move (Commits i s code c) =
@@ -192,7 +163,7 @@ module _ (w : World) (o : Op) (bytes : Bytes (memoryOf o)) (d : Diary) (a : Agre
 
   -- THE PROMISE, for one call
   pub agrees-step : Agrees (step w o .world) (entered w d o)
-  agrees-step = rw (moved w o .world, moved w o .entry d) (agrees-move (moved w o .move))
+  agrees-step = rw (moved w o .world, moved w o .entry bytes (a .traced) d) (agrees-move (moved w o .move))
 
 -- .. and for any sequence of calls. (A memory holds bytes.)
 pub agrees-run : (os : List Op) (w : World) (d : Diary) → All (λ (o : Op). Bytes (memoryOf o)) os → Agrees w d → Agrees (run w os) (diary w d os)
@@ -205,25 +176,23 @@ lends-memory os b = all-map LendsBytes (λ (o : Op). Bytes (memoryOf o)) (λ o h
 -- ---- mount
 
 module _ (l : Lent) (used′ : ℕ) where
-  fresh-agrees : (next : ℕ) → MountFine l used′ next → Agrees (mountedAs l used′) (firstPage l used′)
-  unfolding freshHost freshWeave
-  fresh-agrees next f =
-      let n = none-carried (l .staging) next in
-      rw (f .host)
-      (record {
-        on-card = f .on-card;
-        in-staging = n .within;
-        traced = length-replicate {0} {A = ℕ} 32 0;
-        chained = to-chain (take used′ (l .card)) 1 next (whole-size (take used′ (l .card)) 1 next (f .whole)) (whole-next (take used′ (l .card)) 1 next (f .whole));
-        kept = refl;
-        carried = n .chained;
-        staged = n .are;
-        units = refl;
-      })
-
   -- a mount that is not refused agrees
   pub mount-agrees : mounted l used′ .code ≡ Fine → Agrees (mountedAs l used′) (firstPage l used′)
-  mount-agrees e = let m = mount-fine l used′ e in fresh-agrees (m .0) (m .1)
+  unfolding freshWeave
+  mount-agrees e =
+      let f = mount-fine l used′ e in
+      let h = f .state in
+      let n = none-carried (l .staging) (1 + length (recordsOn (l .card) used′)) in
+      record {
+        on-card = rw (h .used) (f .on-card);
+        in-staging = rw (h .weave) (n .within);
+        traced = rw (h .weave) (length-replicate {0} {A = ℕ} 32 0);
+        chained = rw (h .used, h .next) (to-chain (take used′ (l .card)) 1 (1 + length (recordsOn (l .card) used′)) (f .sound) refl);
+        kept = rw (h .used);
+        carried = rw (h .weave, h .next) (n .chained);
+        staged = rw (h .weave, h .next) (n .are);
+        units = rw (h .weave);
+      }
 
   -- THE PROMISE over the life of a box: mounted, and asked whatever may be asked, it agrees with the diary
   pub life-agrees : (os : List Op) → All (λ (o : Op). Bytes (memoryOf o)) os → mounted l used′ .code ≡ Fine

@@ -2,16 +2,17 @@
 -- Assumes nothing.
 use mathlib.Core.Path.{_≡_, refl, sym, ap, subst, _∙_}
 use mathlib.Core.Bool.{Bool, true, false, not, _&&_, _||_, cond, Bool·beq}
-use lib.IntN.{ℤ, pos, negsuc}
 use mathlib.Core.List.{List, [], _∷_}
 use Prim.Native.Nat.{ℕ, zero, suc, _+_, _-_, _≤_, _<_}
 use native.Mathlib.Omega.{arith}
-use borrow.Author.Tests.{leb-true}
 use native.Mathlib.Nat.{not-suc-le-zero, le-of-suc-le-suc}
+use borrow.Author.Tests.{leb-true}
+use lib.IntN.{ℤ, pos, negsuc}
 use lib.Dec.{T, leb, eqb, eqb→eq}
 use lib.ListN.{length, getD}
 use Rattle.le.specs.Le.{leAt, leBytes}
 use Rattle.le.specs.Splice.{part}
+use Rattle.le.proofs.TestLaws.{Tested, passes, fails, tested}
 use Rattle.text.specs.Utf8.{after, utf8From, utf8}
 use Rattle.text.specs.Topic.{goodTopic, goodText, noControl}
 use Rattle.text.specs.Span.{inside}
@@ -30,14 +31,13 @@ use Rattle.weave.specs.declared.Spoiled.the-variants.{Not}
 use Rattle.weave.specs.Codes.{isFine, first, need, reasonOf}
 use Rattle.weave.specs.Args.{nextArgs}
 use Rattle.takes.specs.Pages.{pageBytes}
-use Rattle.le.proofs.TestLaws.{Tested, passes, fails, tested}
 use Rattle.host.specs.declared.Fate.the-variants.{Discarded}
 use Rattle.host.specs.Ending.{returnCheck, whyNot, fateOf, returnAnswer}
 use Rattle.promises.specs.Box.{World, Return, Ended, step}
 use Rattle.promises.specs.Outcome.{Returns}
 use Rattle.promises.specs.Turn.{listLeft}
-use Rattle.promises.proofs.NextHolds.{pageSays, next-says, two-left, window-none, limit-none}
 use Rattle.promises.specs.Edges.{Case, total, stored, flags, span, float, topic, text, window, twoLeft, returned, Holds, edges}
+use Rattle.promises.proofs.NextHolds.{pageSays, next-says, two-left, window-none, limit-none}
 
 -- ---- answers that are found the same are equal
 

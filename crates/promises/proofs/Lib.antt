@@ -4,7 +4,6 @@ pub mod ReturnHolds
 pub mod ChecksHold
 pub mod AcceptedHolds
 pub mod AnswersHold
-pub mod MountLaws
 pub mod MountHolds
 pub mod StagedLaws
 pub mod MoveLaws
@@ -27,8 +26,11 @@ pub mod PagesHold
 pub mod ListHolds
 pub mod NextHolds
 pub mod EdgesHold
+pub mod RunLaws
 pub mod CommitRuns
+pub mod TwoLaws
 pub mod TwoRuns
 pub mod Promises
 pub mod ContractsHold
 pub mod Determined
+pub mod Rehearsed

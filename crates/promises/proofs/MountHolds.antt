@@ -1,26 +1,28 @@
--- Mount: its code by the first check that fails, the offset, and the state.
+-- Mount: its code by the first check that fails, the offset, and the state; and what a mount that is not refused has.
 -- Assumes nothing.
 use mathlib.Core.Path.{_≡_, refl, sym, ap, _∙_}
-use mathlib.Core.Bool.{false, _&&_, true≢false}
-use Prim.Native.Nat.{ℕ, _+_}
+use mathlib.Core.Bool.{Bool, true, false, _&&_, true≢false}
+use Prim.Native.Nat.{ℕ, _+_, _≤_}
 use native.Mathlib.Omega.{arith}
-use borrow.Author.Tests.{leb-true}
+use borrow.Author.Tests.{leb-true, eqb-true}
 use lib.Dec.{leb, eqb}
 use lib.ListN.{length, take}
 use lib.Seq.{length-take-le}
-use Rattle.le.proofs.TestLaws.{Tested, passes, fails, tested}
+use Rattle.le.proofs.TestLaws.{and-right, Tested, passes, fails, tested}
 use Rattle.manifest.specs.Saying.{isGood, manifestOf}
 use Rattle.card.specs.Records.{size}
 use Rattle.card.specs.Walk.{chain}
 use Rattle.weave.specs.declared.Code.the-variants.{Fine, Unsound, Bad}
 use Rattle.weave.specs.Codes.{isFine, need}
+use Rattle.weave.specs.States.{freshWeave}
 use Rattle.host.specs.declared.Mounted.{Mounted}
 use Rattle.host.specs.Hosts.{Lent, lengthsOf}
 use Rattle.host.specs.Hosts.{freshHost, noHost}
 use Rattle.mounts.specs.Mount.{sizesFine, mountCheck, mountedBy, mounted}
-use Rattle.promises.specs.Box.{recordsOn}
+use Rattle.promises.specs.Box.{recordsOn, mountedAs}
 use Rattle.promises.specs.Checks.{failing}
 use Rattle.promises.specs.Mounting.{mountChecks, StateOf, noLengths}
+use Rattle.promises.proofs.ChecksHold.{fine-is, all-passed}
 
 pub record Mounts (l : Lent) (used : ℕ) : Type 0 where
   pub code : mounted l used .code ≡ failing (mountChecks l used)
@@ -76,3 +78,33 @@ module _ (l : Lent) (used : ℕ) where
       go (passes a) (passes b) (passes c) (passes d) =
           let long : length (take used (l .card)) ≡ used = length-take-le used (l .card) (leb-true used (length (l .card)) b) in
           whole (rw (a, b, c, long, d)) (rw (a, b, c, d))
+
+-- ---- a mount that is not refused
+
+pub record MountFine (l : Lent) (used : ℕ) : Type 0 where
+  pub card-most : length (l .card) ≤ 16777216
+  pub on-card : used ≤ length (l .card)
+  pub good : isGood (manifestOf (l .text)) ≡ true
+  pub sound : size (recordsOn (l .card) used) ≡ length (take used (l .card))
+  pub state : StateOf (mounted l used .host) (lengthsOf l) used (1 + length (recordsOn (l .card) used))
+
+pub mount-fine : (l : Lent) (used : ℕ) → mounted l used .code ≡ Fine → MountFine l used
+mount-fine l used e =
+    let p = all-passed (mountChecks l used) refl (ap isFine (sym (mounts l used .code) ∙ e)) in
+    let sizes = and-right (leb 65536 (length (l .staging))) _ (p .0) in
+    let there = leb-true used (length (l .card)) (p .1 .0) in
+    record {
+      card-most = leb-true (length (l .card)) 16777216 (and-right (leb (length (l .staging)) 1048576) _ sizes);
+      on-card = there;
+      good = p .1 .1 .0;
+      sound = eqb-true (size (recordsOn (l .card) used)) used (p .1 .1 .1 .0) ∙ sym (length-take-le used (l .card) there);
+      state = mounts l used .fresh e;
+    }
+
+-- refused or not, no weave is running
+pub mount-fresh : (l : Lent) (used : ℕ) → mountedAs l used .host .weave ≡ freshWeave
+mount-fresh l used = go (isFine (mounted l used .code)) refl
+  where
+    go : (t : Bool) → isFine (mounted l used .code) ≡ t → mountedAs l used .host .weave ≡ freshWeave
+    go true q = mounts l used .fresh (fine-is (mounted l used .code) q) .weave
+    go false q = mounts l used .zero q .weave

@@ -3,31 +3,32 @@
 -- Assumes nothing.
 use mathlib.Core.Path.{_≡_}
 use mathlib.Core.Bool.{Bool, true, false, cond}
-use mathlib.Core.List.{List, [], _++_}
-use Prim.Native.Nat.{ℕ, _+_, _/_, _≤_, _<_}
+use mathlib.Core.List.{List, [], _∷_, _++_}
+use Prim.Native.Nat.{ℕ, _+_, _^_, _≤_, _<_}
 use lib.Dec.{eqb}
 use lib.IntN.{ℤ}
-use lib.ListN.{length, take}
+use lib.ListN.{length, take, set}
 use Rattle.le.specs.Le.{Bytes}
 use Rattle.le.specs.Splice.{splice, zeros}
 use Rattle.manifest.specs.Saying.{modulesSaid, manifestOf}
-use Rattle.card.specs.Listing.{fit, pageOf, advance}
+use Rattle.card.specs.Listing.{fit, advance}
 use Rattle.weave.specs.declared.Slot.{Slot}
+use Rattle.weave.specs.declared.Spoiled.{Spoiled}
 use Rattle.weave.specs.declared.Spoiled.the-variants.{Overspent, Panicked}
 use Rattle.weave.specs.declared.Weave.{Weave}
 use Rattle.weave.specs.Sums.{added}
 use Rattle.weave.specs.Checks.{handleFine, slotFine}
-use Rattle.weave.specs.Moves.{cursorOf, openedWith, movedTo, closedAt}
-use Rattle.weave.specs.States.{freshWeave, paid, holding, spoilt, turned}
+use Rattle.weave.specs.Table.{freeSlot, noSlots, hasHandle, slotPlace}
+use Rattle.weave.specs.Moves.{cursorOf}
+use Rattle.weave.specs.States.{freshWeave}
 use Rattle.takes.specs.Begun.{begun}
-use Rattle.takes.specs.Pages.{pageCharge}
 use Rattle.host.specs.Hosts.{lentAs, withWeave}
 use Rattle.reads.specs.Paging.{nextList}
 use Rattle.host.specs.Ending.{committed}
 use Rattle.promises.specs.Box.{World, Op, step, isRefused, memoryOf, argsOf}
 use Rattle.promises.specs.Refusal.{Unchanged}
 use Rattle.promises.specs.Outcome.{Conditions, saysCommitted, isReturned}
-use Rattle.promises.specs.Diary.{Diary, spent, held, emptied, entered}
+use Rattle.promises.specs.Diary.{Diary, emptied, entered}
 use Rattle.promises.specs.Turn.{InTurn, givenBy}
 use Rattle.promises.proofs.StagedLaws.{Stageable}
 
@@ -39,93 +40,142 @@ Affords w charge = w .host .weave .units + charge ≤ w .host .weave .resmax
 abbrev pub Traced : World → Type 0
 Traced w = length (w .host .weave .trace) ≡ 32
 
--- ---- a weave that runs goes on, with what was known before the change
+-- ---- a weave that runs goes on: what becomes of each of its parts, with what was known before
 
-pub data Change (w : World) (o : Op) : Type 0 where
-  -- the first -6 marks it
-  Marks : Change w o
-  -- a record r of n bytes is staged; by a write it is paid for. (A memory holds bytes.)
-  Stages : (r : List ℕ) (n : ℕ) → (Traced w → Stageable (w .lent) (w .host) r n) → Change w o
-  Writes : (r : List ℕ) (n : ℕ) → Affords w (1 + n / 8) → (Bytes (memoryOf o) → Traced w → Stageable (w .lent) (w .host) r n) → Change w o
-  -- a read is paid for
-  Pays : (charge : ℕ) → Affords w charge → Change w o
-  -- a cursor is opened, hands over a page into so many bytes, is closed
-  Opens : (s : Slot) → s .handle ≡ added (w .host .weave .opened) 1 65535 → slotFine (w .host .weave) ≡ true → Affords w 1 → Change w o
-  Hands : (k cap : ℕ) → handleFine (w .host .weave) k ≡ true → Affords w (pageCharge (pageOf cap (nextList (w .lent) (w .host) k))) → Change w o
-  Closes : (k : ℕ) → handleFine (w .host .weave) k ≡ true → Affords w 1 → Change w o
-  Panics : Change w o
-  -- the next module's turn
-  Turns : (InTurn o → ⊥) → w .host .weave .turn < modulesSaid (manifestOf (w .lent .text)) → Change w o
+-- the units: an accepted module call is paid for, but for a panic
+pub data Cost (w : World) : Type 0 where
+  Unpaid : Cost w
+  Free : Cost w
+  Paid : (charge : ℕ) → Affords w charge → Cost w
 
+-- the staged bytes: a record r of n bytes joins them. (A memory holds bytes.)
+pub data Staging (w : World) (o : Op) : Type 0 where
+  Kept : Staging w o
+  Staged : (r : List ℕ) (n : ℕ) → (Bytes (memoryOf o) → Traced w → Stageable (w .lent) (w .host) r n) → Staging w o
+
+-- the cursors: one is opened, hands over a page into so many bytes, is closed; a return closes all
+pub data Cursors (w : World) (o : Op) : Type 0 where
+  Same : Cursors w o
+  Opens : (s : Slot) → s .handle ≡ added (w .host .weave .opened) 1 65535 → slotFine (w .host .weave) ≡ true → Cursors w o
+  Hands : (k cap : ℕ) → handleFine (w .host .weave) k ≡ true → Cursors w o
+  Closes : (k : ℕ) → handleFine (w .host .weave) k ≡ true → Cursors w o
+  Cleared : (InTurn o → ⊥) → Cursors w o
+
+-- the mark: the first -6, or a panic
+pub data Marking : Type 0 where
+  Unmarked Overspends Panics : Marking
+
+-- the turn
+pub data Turning (w : World) (o : Op) : Type 0 where
+  Stays : Turning w o
+  Turns : (InTurn o → ⊥) → w .host .weave .turn < modulesSaid (manifestOf (w .lent .text)) → Turning w o
+
+pub record Change (w : World) (o : Op) : Type 0 where
+  pub cost : Cost w
+  pub staging : Staging w o
+  pub cursors : Cursors w o
+  pub mark : Marking
+  pub turn : Turning w o
+
+-- an accepted call of a turn, but for a panic
+abbrev pub called : (w : World) (o : Op) → Cost w → Staging w o → Cursors w o → Change w o
+called w o cost′ staging′ cursors′ = record { cost = cost′; staging = staging′; cursors = cursors′; mark = Unmarked; turn = Stays }
+
+-- the page that a cursor hands over
+abbrev pub pageFrom : World → ℕ → ℕ → List (List ℕ)
+pageFrom w k room = fit room (nextList (w .lent) (w .host) k)
+
+abbrev pub unitsAfter : (w : World) → Cost w → ℕ
+unitsAfter w Unpaid = w .host .weave .units
+unitsAfter w Free = added (w .host .weave .units) 0 (w .host .weave .resmax)
+unitsAfter w (Paid charge b) = added (w .host .weave .units) charge (w .host .weave .resmax)
+
+abbrev pub lateAfter : (w : World) (o : Op) → Cost w → Turning w o → Bool
+lateAfter w o Unpaid Stays = w .host .weave .late
+lateAfter w o Unpaid (Turns i low) = true
+lateAfter w o Free t = true
+lateAfter w o (Paid charge b) t = true
+
+abbrev pub stagedAfter : (w : World) (o : Op) → Staging w o → ℕ
+stagedAfter w o Kept = w .host .weave .staged
+stagedAfter w o (Staged r n g) = added (w .host .weave .staged) n (length (w .lent .staging))
+
+abbrev pub countAfter : (w : World) (o : Op) → Staging w o → ℕ
+countAfter w o Kept = w .host .weave .count
+countAfter w o (Staged r n g) = added (w .host .weave .count) 1 (2 ^ 63)
+
+abbrev pub stagingAfter : (w : World) (o : Op) → Staging w o → List ℕ
+stagingAfter w o Kept = w .lent .staging
+stagingAfter w o (Staged r n g) = splice (w .lent .staging) (w .host .weave .staged) r
+
+abbrev pub openedAfter : (w : World) (o : Op) → Cursors w o → ℕ
+openedAfter w o Same = w .host .weave .opened
+openedAfter w o (Opens s e f) = added (w .host .weave .opened) 1 65535
+openedAfter w o (Hands k room f) = w .host .weave .opened
+openedAfter w o (Closes k f) = w .host .weave .opened
+openedAfter w o (Cleared i) = w .host .weave .opened
+
+abbrev pub slotsAfter : (w : World) (o : Op) → Cursors w o → List Slot
+slotsAfter w o Same = w .host .weave .slots
+slotsAfter w o (Opens s e f) = set (w .host .weave .slots) (slotPlace (hasHandle 0) (w .host .weave .slots)) s
+slotsAfter w o (Hands k room f) =
+    set (w .host .weave .slots) (slotPlace (hasHandle k) (w .host .weave .slots)) (record { handle = k; cursor = advance (cursorOf (w .host .weave) k) (pageFrom w k room) })
+slotsAfter w o (Closes k f) = set (w .host .weave .slots) (slotPlace (hasHandle k) (w .host .weave .slots)) freeSlot
+slotsAfter w o (Cleared i) = noSlots
+
+abbrev pub spoiledAfter : World → Marking → Spoiled
+spoiledAfter w Unmarked = w .host .weave .spoiled .0
+spoiledAfter w Overspends = Overspent
+spoiledAfter w Panics = Panicked
+
+abbrev pub faultedAfter : World → Marking → Bool
+faultedAfter w Unmarked = w .host .faulted
+faultedAfter w Overspends = w .host .faulted
+faultedAfter w Panics = true
+
+abbrev pub turnAfter : (w : World) (o : Op) → Turning w o → ℕ
+turnAfter w o Stays = w .host .weave .turn
+turnAfter w o (Turns i low) = added (w .host .weave .turn) 1 16
+
+-- what begin set stays
 abbrev pub weaveAfter : (w : World) (o : Op) → Change w o → Weave
-weaveAfter w o Marks = spoilt (w .host .weave) Overspent
-weaveAfter w o (Stages r n g) = holding (w .host .weave) n (length (w .lent .staging))
-weaveAfter w o (Writes r n b g) = holding (paid (w .host .weave) (1 + n / 8)) n (length (w .lent .staging))
-weaveAfter w o (Pays charge b) = paid (w .host .weave) charge
-weaveAfter w o (Opens s e f b) = openedWith (w .host .weave) s
-weaveAfter w o (Hands k cap f b) =
-    movedTo (w .host .weave) k (advance (cursorOf (w .host .weave) k) (fit cap (nextList (w .lent) (w .host) k)))
-    (pageCharge (pageOf cap (nextList (w .lent) (w .host) k)))
-weaveAfter w o (Closes k f b) = closedAt (w .host .weave) k
-weaveAfter w o Panics = spoilt (paid (w .host .weave) 0) Panicked
-weaveAfter w o (Turns i low) = turned (w .host .weave)
-
-abbrev pub stagingAfter : (w : World) (o : Op) → Change w o → List ℕ
-stagingAfter w o Marks = w .lent .staging
-stagingAfter w o (Stages r n g) = splice (w .lent .staging) (w .host .weave .staged) r
-stagingAfter w o (Writes r n b g) = splice (w .lent .staging) (w .host .weave .staged) r
-stagingAfter w o (Pays charge b) = w .lent .staging
-stagingAfter w o (Opens s e f b) = w .lent .staging
-stagingAfter w o (Hands k cap f b) = w .lent .staging
-stagingAfter w o (Closes k f b) = w .lent .staging
-stagingAfter w o Panics = w .lent .staging
-stagingAfter w o (Turns i low) = w .lent .staging
-
-abbrev pub faultedAfter : (w : World) (o : Op) → Change w o → Bool
-faultedAfter w o Marks = w .host .faulted
-faultedAfter w o (Stages r n g) = w .host .faulted
-faultedAfter w o (Writes r n b g) = w .host .faulted
-faultedAfter w o (Pays charge b) = w .host .faulted
-faultedAfter w o (Opens s e f b) = w .host .faulted
-faultedAfter w o (Hands k cap f b) = w .host .faulted
-faultedAfter w o (Closes k f b) = w .host .faulted
-faultedAfter w o Panics = true
-faultedAfter w o (Turns i low) = w .host .faulted
+weaveAfter w o c =
+    record {
+      running = w .host .weave .running;
+      spoiled = record { 0 = spoiledAfter w (c .mark) };
+      turn = turnAfter w o (c .turn);
+      late = lateAfter w o (c .cost) (c .turn);
+      staged = stagedAfter w o (c .staging);
+      count = countAfter w o (c .staging);
+      units = unitsAfter w (c .cost);
+      resmax = w .host .weave .resmax;
+      time = w .host .weave .time;
+      trace = w .host .weave .trace;
+      opened = openedAfter w o (c .cursors);
+      slots = slotsAfter w o (c .cursors);
+    }
 
 -- what the diary enters
-abbrev pub entryOf : (w : World) (o : Op) → Change w o → Diary → Diary
-entryOf w o Marks d = d
-entryOf w o (Stages r n g) d = held d r
-entryOf w o (Writes r n b g) d = spent (held d r) (1 + length r / 8)
-entryOf w o (Pays charge b) d = spent d charge
-entryOf w o (Opens s e f b) d = spent d 1
-entryOf w o (Hands k cap f b) d = spent d (pageCharge (pageOf cap (nextList (w .lent) (w .host) k)))
-entryOf w o (Closes k f b) d = spent d 1
-entryOf w o Panics d = d
-entryOf w o (Turns i low) d = d
+abbrev pub stagedBy : (w : World) (o : Op) → Staging w o → List (List ℕ) → List (List ℕ)
+stagedBy w o Kept rs = rs
+stagedBy w o (Staged r n g) rs = rs ++ (r ∷ [])
+
+abbrev pub unitsBy : (w : World) → Cost w → ℕ → ℕ
+unitsBy w Unpaid u = u
+unitsBy w Free u = u
+unitsBy w (Paid charge b) u = u + charge
 
 -- what is handed over on the cursor j
-abbrev pub handedOn : ℕ → (w : World) (o : Op) → Change w o → List (List ℕ)
-handedOn j w o Marks = []
-handedOn j w o (Stages r n g) = []
-handedOn j w o (Writes r n b g) = []
-handedOn j w o (Pays charge b) = []
-handedOn j w o (Opens s e f b) = []
-handedOn j w o (Hands k cap f b) = cond (eqb k j) (fit cap (nextList (w .lent) (w .host) k)) []
-handedOn j w o (Closes k f b) = []
-handedOn j w o Panics = []
-handedOn j w o (Turns i low) = []
+abbrev pub handedOn : ℕ → (w : World) (o : Op) → Cursors w o → List (List ℕ)
+handedOn j w o Same = []
+handedOn j w o (Opens s e f) = []
+handedOn j w o (Hands k room f) = cond (eqb k j) (pageFrom w k room) []
+handedOn j w o (Closes k f) = []
+handedOn j w o (Cleared i) = []
 
 -- it ends a turn
-abbrev pub turnsBy : (w : World) (o : Op) → Change w o → Bool
-turnsBy w o Marks = false
-turnsBy w o (Stages r n g) = false
-turnsBy w o (Writes r n b g) = false
-turnsBy w o (Pays charge b) = false
-turnsBy w o (Opens s e f b) = false
-turnsBy w o (Hands k cap f b) = false
-turnsBy w o (Closes k f b) = false
-turnsBy w o Panics = false
+abbrev pub turnsBy : (w : World) (o : Op) → Turning w o → Bool
+turnsBy w o Stays = false
 turnsBy w o (Turns i low) = true
 
 -- ---- any move
@@ -147,10 +197,10 @@ after w o (GoesOn r c) =
         lengths = w .host .lengths;
         used = w .host .used;
         next = w .host .next;
-        faulted = faultedAfter w o c;
+        faulted = faultedAfter w (c .mark);
         weave = weaveAfter w o c;
       };
-      lent = lentAs (stagingAfter w o c) (w .lent .card) (w .lent .text);
+      lent = lentAs (stagingAfter w o (c .staging)) (w .lent .card) (w .lent .text);
     }
 after w o (Commits i s code c) =
     record {
@@ -163,21 +213,21 @@ after w o (Discards i) =
 abbrev pub entryBy : (w : World) (o : Op) → Move w o → Diary → Diary
 entryBy w o Rests d = d
 entryBy w o (Begins args i b) d = emptied d
-entryBy w o (GoesOn r c) d = entryOf w o c d
+entryBy w o (GoesOn r c) d = record { kept = d .kept; staged = stagedBy w o (c .staging) (d .staged); units = unitsBy w (c .cost) (d .units) }
 entryBy w o (Commits i s code c) d = record { kept = d .kept ++ d .staged; staged = []; units = 0 }
 entryBy w o (Discards i) d = emptied d
 
 abbrev pub handedBy : ℕ → (w : World) (o : Op) → Move w o → List (List ℕ)
 handedBy k w o Rests = []
 handedBy k w o (Begins args i b) = []
-handedBy k w o (GoesOn r c) = handedOn k w o c
+handedBy k w o (GoesOn r c) = handedOn k w o (c .cursors)
 handedBy k w o (Commits i s code c) = []
 handedBy k w o (Discards i) = []
 
 abbrev pub endsTurn : (w : World) (o : Op) → Move w o → Bool
 endsTurn w o Rests = false
 endsTurn w o (Begins args i b) = false
-endsTurn w o (GoesOn r c) = turnsBy w o c
+endsTurn w o (GoesOn r c) = turnsBy w o (c .turn)
 endsTurn w o (Commits i s code c) = true
 endsTurn w o (Discards i) = true
 
@@ -186,7 +236,7 @@ endsTurn w o (Discards i) = true
 pub record Moved (w : World) (o : Op) : Type 0 where
   pub move : Move w o
   pub world : step w o .world ≡ after w o move
-  pub entry : (d : Diary) → entered w d o ≡ entryBy w o move d
+  pub entry : Bytes (memoryOf o) → Traced w → (d : Diary) → entered w d o ≡ entryBy w o move d
   pub given : (k : ℕ) → givenBy k w o ≡ handedBy k w o move
   pub returned : isReturned (step w o .said) ≡ endsTurn w o move
   -- promise 1, which is about what is said as well

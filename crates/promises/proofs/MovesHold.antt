@@ -8,11 +8,14 @@ use borrow.Author.Tests.{eqb-true, not-true}
 use lib.Dec.{leb}
 use lib.IntN.{ℤ}
 use lib.ListN.{length}
+use Rattle.le.specs.Le.{Bytes}
 use Rattle.le.proofs.TestLaws.{and-left, and-right}
 use Rattle.le.proofs.SpliceLaws.{splice-nil}
 use Rattle.weave.specs.declared.Code.{Code}
 use Rattle.weave.specs.declared.Code.the-variants.{NotNow, Bad}
 use Rattle.weave.specs.Codes.{isFine, isBudget}
+use Rattle.weave.specs.Moves.{openedWith, movedTo, closedAt}
+use Rattle.weave.specs.States.{paid, holding, tabled, spoilt, turned}
 use Rattle.weave.specs.Args.{openArgs, nextArgs, closeHandle}
 use Rattle.weave.proofs.CodeLaws.{first-left}
 use Rattle.takes.specs.Opening.{opening}
@@ -30,11 +33,11 @@ use Rattle.promises.specs.Box.{World, Op, Begin, Ingress, Write, Read, O
 use Rattle.promises.specs.Checks.{Check, failing, lentAsked, gate, writeAsks, readAsks, openAsks, nextAsks, closeAsks, checksOf}
 use Rattle.promises.specs.Diary.{Diary, ingressRecord, writtenRecord, noted}
 use Rattle.promises.specs.Turn.{pageOn, isNextOn}
+use Rattle.promises.proofs.OutcomeHolds.{Fated, turned-away, has-reason, turns-on, ends-badly, ends-well, fated, return-runs, conditions}
 use Rattle.promises.proofs.ChecksHold.{Comes, begin-code, ingress-code, write-code, read-code, open-code, next-code, close-code, return-code}
 use Rattle.promises.proofs.AcceptedHolds.{begin-exactly, ingress-exactly, write-exactly, read-exactly, open-exactly, next-exactly, close-exactly, next-page, read-page}
-use Rattle.promises.proofs.OutcomeHolds.{Fated, turned-away, has-reason, turns-on, ends-badly, ends-well, fated, return-runs, conditions}
 use Rattle.promises.proofs.StagedLaws.{ingress-staged, write-staged}
-use Rattle.promises.proofs.MoveLaws.{Marks, Stages, Writes, Pays, Opens, Hands, Closes, Panics, Turns, Move, Rests, Begins, GoesOn, Commits, Discards, after, entryBy, handedBy, endsTurn, Moved}
+use Rattle.promises.proofs.MoveLaws.{Traced, called, Unpaid, Free, Paid, Kept, Staged, Same, Opens, Hands, Closes, Cleared, Unmarked, Overspends, Panics, Stays, Turns, Move, Rests, Begins, GoesOn, Commits, Discards, after, entryBy, handedBy, endsTurn, Moved}
 
 -- ---- a -6 is said in a weave alone
 
@@ -66,7 +69,7 @@ gate-idle w m cs idle = go (leb (length m) 1048576) (lentAsked w .asks) (w .host
 record Accepted (w : World) (o : Op) : Type 0 where
   move : Move w o
   world : step w o .world ≡ after w o move
-  entry : (d : Diary) → noted w d o ≡ entryBy w o move d
+  entry : Bytes (memoryOf o) → Traced w → (d : Diary) → noted w d o ≡ entryBy w o move d
   given : (k : ℕ) → pageOn k w o ≡ handedBy k w o move
   stays : endsTurn w o move ≡ false
 
@@ -75,7 +78,7 @@ module _ (w : World) (o : Op) (c : Code) (v : ℕ) (next′ : Host) (staging′ 
   -- THE LAW of `settle`: accepted it is what it is then; refused, nothing is changed but for the mark
   settled : (isFine c ≡ false → (staging′ ≡ w .lent .staging) × (memory′ ≡ memoryOf o)) → Comes c (checksOf w o) → (w .host .weave .running ≡ false → isBudget (failing (checksOf w o)) ≡ false)
       → (isRefused (step w o .said) ≡ false → isFine c ≡ true → Accepted w o) → Moved w o
-  unfolding settle turnedAway withWeave
+  unfolding settle turnedAway withWeave spoilt
   settled off code idle accepts = go (isFine c) refl (isBudget c) refl
     where
       in-weave : (r : Bool) → w .host .weave .running ≡ r → isBudget c ≡ true → w .host .weave .running ≡ true
@@ -89,15 +92,15 @@ module _ (w : World) (o : Op) (c : Code) (v : ℕ) (next′ : Host) (staging′ 
           record {
             move = y .move;
             world = y .world;
-            entry = λ d. rw said (y .entry d);
+            entry = λ b t d. rw said (y .entry b t d);
             given = λ k. rw said (y .given k);
             returned = rw is (sym (y .stays));
             refused = λ e. absurd (true≢false (sym e ∙ said));
           }
       go false q true r = record {
-        move = GoesOn (in-weave (w .host .weave .running) refl r) Marks;
+        move = GoesOn (in-weave (w .host .weave .running) refl r) (record { cost = Unpaid; staging = Kept; cursors = Same; mark = Overspends; turn = Stays });
         world = rw (is, q, r, off q .0);
-        entry = λ d. rw (is, q, q);
+        entry = λ b t d. rw (is, q, q);
         given = λ k. rw (is, q, q);
         returned = rw is;
         refused = λ e. record { lent = rw (is, off q .0); memory = rw (is, off q .1); host = rw (is, q, r) };
@@ -105,7 +108,7 @@ module _ (w : World) (o : Op) (c : Code) (v : ℕ) (next′ : Host) (staging′ 
       go false q false r = record {
         move = Rests;
         world = rw (is, q, r, off q .0);
-        entry = λ d. rw (is, q, q);
+        entry = λ b t d. rw (is, q, q);
         given = λ k. rw (is, q, q);
         returned = rw is;
         refused = λ e. record { lent = rw (is, off q .0); memory = rw (is, off q .1); host = rw (is, q, r) };
@@ -119,27 +122,27 @@ module _ (w : World) (code : ℤ) where
   discards c q = record {
     move = Discards (λ i. i);
     world = rw (q, splice-nil);
-    entry = λ d. rw q;
+    entry = λ b t d. rw q;
     given = λ k. rw q;
     returned = rw q;
     refused = λ e. absurd (true≢false (sym e ∙ rw q));
   }
 
   fate-moved : Fated (w .lent) (w .host) code → Moved w (Return code)
-  unfolding step returnAnswer returnCard returnStaging finished withWeave
+  unfolding step returnAnswer returnCard returnStaging finished withWeave turned
   fate-moved (turned-away a q) = record {
     move = Rests;
     world = rw (q, splice-nil);
-    entry = λ d. rw q;
+    entry = λ b t d. rw q;
     given = λ k. rw q;
     returned = rw q;
     refused = λ e. record { lent = rw (q, splice-nil); memory = refl; host = rw (q, ap isBudget (return-code w .is) ∙ no-budget (checksOf w (Return code)) refl) };
   }
   fate-moved (has-reason a b q) = discards _ q
   fate-moved (turns-on a b low q) = record {
-    move = GoesOn (return-runs (w .lent) (w .host) a) (Turns (λ i. i) low);
+    move = GoesOn (return-runs (w .lent) (w .host) a) (record { cost = Unpaid; staging = Kept; cursors = Cleared (λ i. i); mark = Unmarked; turn = Turns (λ i. i) low });
     world = rw (q, splice-nil);
-    entry = λ d. rw q;
+    entry = λ b t d. rw q;
     given = λ k. rw q;
     returned = rw q;
     refused = λ e. absurd (true≢false (sym e ∙ rw q));
@@ -148,7 +151,7 @@ module _ (w : World) (code : ℤ) where
   fate-moved (ends-well a b c f q) = record {
     move = Commits (λ i. i) (rw q) code (conditions (w .lent) (w .host) code _ _ q .0);
     world = rw q;
-    entry = λ d. rw q;
+    entry = λ b t d. rw q;
     given = λ k. rw q;
     returned = rw q;
     refused = λ e. absurd (true≢false (sym e ∙ rw q));
@@ -166,89 +169,110 @@ module _ (w : World) where
   begin-moved : (args : List ℕ) → Moved w (Begin args)
   unfolding step beginAnswer beginStaging settle withWeave
   begin-moved args =
-      settled w (Begin args) (beginCheck l h args) 0 (withWeave h (begun args)) (beginStaging l h args) [] refl (λ e. (rw e, refl)) (begin-code w args) (λ i. no-budget (checksOf w (Begin args)) refl)
-      (λ a f. record { move = Begins args (begin-exactly w args .0 a .idle) (λ b. b); world = rw f; entry = λ d. refl; given = λ k. refl; stays = refl })
+      settled w (Begin args) (beginCheck l h args) 0 (withWeave h (begun args)) (beginStaging l h args) [] refl
+      (λ e. (rw e, refl)) (begin-code w args) (λ i. no-budget (checksOf w (Begin args)) refl)
+      (λ a f. record { move = Begins args (begin-exactly w args .0 a .idle) (λ b. b); world = rw f; entry = λ b t d. refl; given = λ k. refl; stays = refl })
 
   ingress-moved : (topic payload : List ℕ) → Moved w (Ingress topic payload)
-  unfolding step ingressAnswer ingressStaging ingressRecord settle withWeave
+  unfolding step ingressAnswer ingressStaging ingressRecord settle withWeave holding
   ingress-moved topic payload =
-      settled w (Ingress topic payload) (ingressCheck l h topic payload) 0 _ (ingressStaging l h topic payload) [] refl (λ e. (rw e, refl)) (ingress-code w topic payload) (λ i. no-budget (checksOf w (Ingress topic payload)) refl)
+      settled w (Ingress topic payload) (ingressCheck l h topic payload) 0 _ (ingressStaging l h topic payload) [] refl
+      (λ e. (rw e, refl)) (ingress-code w topic payload) (λ i. no-budget (checksOf w (Ingress topic payload)) refl)
       (λ a f. record {
-        move = GoesOn (ingress-exactly w topic payload .0 a .running) (Stages _ _ (λ t. ingress-staged l h topic payload t (ingress-exactly w topic payload .0 a)));
+        move = GoesOn (ingress-exactly w topic payload .0 a .running) (called w _ Unpaid (Staged _ _ (λ b t. ingress-staged l h topic payload t (ingress-exactly w topic payload .0 a))) Same);
         world = rw f;
-        entry = λ d. refl;
+        entry = λ b t d. refl;
         given = λ k. refl;
         stays = refl;
       })
 
   module _ (m : List ℕ) (at : ℕ) where
     write-moved : Moved w (Write m at)
-    unfolding step writeAnswer writeStaging writtenRecord settle written panicked withWeave
+    unfolding step writeAnswer writeStaging writtenRecord settle written panicked withWeave holding paid spoilt
     write-moved =
-        settled w (Write m at) (writeCheck l h m at) 0 _ (writeStaging l h m at) m refl (λ e. (rw e, refl)) (write-code w m at) (gate-idle w m (writeAsks w m at)) (λ a f. go a f (isPanic m at) refl)
+        settled w (Write m at) (writeCheck l h m at) 0 _ (writeStaging l h m at) m refl
+        (λ e. (rw e, refl)) (write-code w m at) (gate-idle w m (writeAsks w m at)) (λ a f. go a f (isPanic m at) refl)
       where
         go : isRefused (step w (Write m at) .said) ≡ false → isFine (writeCheck l h m at) ≡ true → (p : Bool) → isPanic m at ≡ p → Accepted w (Write m at)
         go a f true p =
-            record { move = GoesOn (write-exactly w m at .0 a .gated .running) Panics; world = rw (f, p); entry = λ d. rw p; given = λ k. refl; stays = refl }
+            record {
+              move = GoesOn (write-exactly w m at .0 a .gated .running) (record { cost = Free; staging = Kept; cursors = Same; mark = Panics; turn = Stays });
+              world = rw (f, p);
+              entry = λ b t d. rw p;
+              given = λ k. refl;
+              stays = refl;
+            }
         go a f false p =
             let may = write-exactly w m at .0 a in
             record {
-              move = GoesOn (may .gated .running) (Writes (writtenRecord w m at) _ (may .budget p) (λ b t. write-staged l h m at t b may p));
+              move = GoesOn (may .gated .running) (called w _ (Paid _ (may .budget p)) (Staged (writtenRecord w m at) _ (λ b t. write-staged l h m at t b may p)) Same);
               world = rw (f, p);
-              entry = λ d. rw p;
+              entry = λ b t d. rw (p, write-staged l h m at t b may p .long);
               given = λ k. refl;
               stays = refl;
             }
 
     read-moved : Moved w (Read m at)
-    unfolding step readAnswer readMemory readCheck settle withWeave
+    unfolding step readAnswer readMemory readCheck settle withWeave paid
     read-moved =
         settled w (Read m at) (readCheck l h m at) _ _ (l .staging) (readMemory l h m at) refl (λ e. (refl, rw e)) (read-code w m at) (gate-idle w m (readAsks w m at))
         (λ a f.
         let may = read-exactly w m at .0 a in
         let page = read-page w m at (first-left (readSound l h m at) _ f) in
-        record { move = GoesOn (may .gated .running) (Pays _ (may .budget)); world = rw (f, page); entry = λ d. rw (f, page); given = λ k. refl; stays = refl })
+        record {
+          move = GoesOn (may .gated .running) (called w _ (Paid _ (may .budget)) Kept Same);
+          world = rw (f, page);
+          entry = λ b t d. rw (f, page);
+          given = λ k. refl;
+          stays = refl;
+        })
 
     open-moved : Moved w (Open m at)
-    unfolding step openAnswer openNext settle withWeave opening
+    unfolding step openAnswer openNext settle withWeave opening openedWith tabled paid
     open-moved =
         settled w (Open m at) (openCheck l h m at) (nextHandle h) _ (l .staging) m refl (λ e. (refl, refl)) (open-code w m at) (gate-idle w m (openAsks w m at))
         (λ a f.
         let may = open-exactly w m at .0 a in
         record {
-          move = GoesOn (may .gated .running) (Opens (opening m (openArgs m at) (nextHandle h)) refl (may .room) (may .budget));
+          move = GoesOn (may .gated .running) (called w _ (Paid 1 (may .budget)) Kept (Opens (opening m (openArgs m at) (nextHandle h)) refl (may .room)));
           world = rw f;
-          entry = λ d. refl;
+          entry = λ b t d. refl;
           given = λ k. refl;
           stays = refl;
         })
 
     next-moved : Moved w (Next m at)
-    unfolding step nextAnswer nextMemory nextCheck nextHost nextCursor settle withWeave
+    unfolding step nextAnswer nextMemory nextCheck nextHost nextCursor settle withWeave movedTo tabled paid
     next-moved =
         settled w (Next m at) (nextCheck l h m at) _ _ (l .staging) (nextMemory l h m at) refl (λ e. (refl, rw e)) (next-code w m at) (gate-idle w m (nextAsks w m at))
         (λ a f.
         let may = next-exactly w m at .0 a in
         let page = next-page w m at (first-left (nextSound l h m at) _ f) in
         record {
-          move = GoesOn (may .gated .running) (Hands (nextArgs m at .handle) (nextArgs m at .out .len) (may .handle) (may .budget));
+          move = GoesOn (may .gated .running) (called w _ (Paid _ (may .budget)) Kept (Hands (nextArgs m at .handle) (nextArgs m at .out .len) (may .handle)));
           world = rw (f, page);
-          entry = λ d. rw (f, page);
+          entry = λ b t d. rw (f, page);
           given = λ k. refl;
           stays = refl;
         })
 
     close-moved : Moved w (Close m at)
-    unfolding step closeAnswer closeNext settle withWeave
+    unfolding step closeAnswer closeNext settle withWeave closedAt tabled paid
     close-moved =
         settled w (Close m at) (closeCheck l h m at) 0 _ (l .staging) m refl (λ e. (refl, refl)) (close-code w m at) (gate-idle w m (closeAsks w m at))
         (λ a f.
         let may = close-exactly w m at .0 a in
-        record { move = GoesOn (may .gated .running) (Closes (closeHandle m at) (may .handle) (may .budget)); world = rw f; entry = λ d. refl; given = λ k. refl; stays = refl })
+        record {
+          move = GoesOn (may .gated .running) (called w _ (Paid 1 (may .budget)) Kept (Closes (closeHandle m at) (may .handle)));
+          world = rw f;
+          entry = λ b t d. refl;
+          given = λ k. refl;
+          stays = refl;
+        })
 
   look-moved : (id : ℕ) → Moved w (LookUp id)
   unfolding step
-  look-moved id = record { move = Rests; world = refl; entry = λ d. refl; given = λ k. refl; returned = refl; refused = λ e. absurd (true≢false (sym e)) }
+  look-moved id = record { move = Rests; world = refl; entry = λ b t d. refl; given = λ k. refl; returned = refl; refused = λ e. absurd (true≢false (sym e)) }
 
   -- THE THEOREM
   pub moved : (o : Op) → Moved w o

@@ -26,10 +26,10 @@ use Rattle.reads.specs.Paging.{nextList, nextAnswer}
 use Rattle.promises.specs.Box.{World, Next, step, codeOf, saidNumber}
 use Rattle.promises.specs.Checks.{Check, Passed, failing, gate, paged, nextFirst}
 use Rattle.promises.specs.Diary.{answerOf}
-use Rattle.promises.specs.Edges.{Ready, cursorAt}
 use Rattle.promises.specs.Turn.{listLeft}
-use Rattle.promises.proofs.AnswersHold.{answers-are, page-bytes}
+use Rattle.promises.specs.Edges.{Ready, cursorAt}
 use Rattle.promises.proofs.ChecksHold.{code-is}
+use Rattle.promises.proofs.AnswersHold.{answers-are, page-bytes}
 use Rattle.promises.proofs.ListHolds.{listed-means}
 
 passed-on : (cs ds : List Check) → All Passed cs → failing (cs ++ ds) ≡ failing ds
@@ -61,8 +61,10 @@ module _ (w : World) (m : List ℕ) (a : ℕ) where
 
   pub next-says : (p : Page) → found ≡ p → (n : ℕ) → Ready w m a n → pageBytes p ≤ n → saidNumber (step w (Next m a) .said) ≡ pageSays p
   next-says p q n r h =
-      let code : codeOf (step w (Next m a) .said) ≡ failing (paged w p) = code-is w (Next m a) ∙ passed-on (gate w m ++ nextFirst w m a) (paged w found) (r .passed) ∙ ap (λ (x : Page). failing (paged w x)) q in
-      said-by (failing (paged w p)) code (pageBytes p) (λ f. fine-answer (ap isFine code ∙ f) ∙ ap pageBytes q) ∙ go p (le-leb (w .host .weave .units + pageCharge p) (w .host .weave .resmax) (omega (arith, r .budget)))
+      let code : codeOf (step w (Next m a) .said) ≡ failing (paged w p) =
+      code-is w (Next m a) ∙ passed-on (gate w m ++ nextFirst w m a) (paged w found) (r .passed) ∙ ap (λ (x : Page). failing (paged w x)) q in
+      said-by (failing (paged w p)) code (pageBytes p) (λ f. fine-answer (ap isFine code ∙ f) ∙ ap pageBytes q)
+      ∙ go p (le-leb (w .host .weave .units + pageCharge p) (w .host .weave .resmax) (omega (arith, r .budget)))
     where
       go : (p : Page) → leb (w .host .weave .units + pageCharge p) (w .host .weave .resmax) ≡ true
           → cond (isFine (failing (paged w p))) (pos (pageBytes p)) (number (failing (paged w p))) ≡ pageSays p

@@ -39,9 +39,9 @@ use Rattle.promises.specs.Turn.{InTurn, givenBy, handedOver, listLeft, F
 use Rattle.promises.proofs.AcceptedLaws.{settle-ok}
 use Rattle.promises.proofs.AcceptedHolds.{open-exactly, next-exactly, next-page}
 use Rattle.promises.proofs.MovesHold.{next-on}
-use Rattle.promises.proofs.TidyHolds.{slot-free, handle-new, handle-there}
 use Rattle.promises.proofs.SlotLaws.{place-none, place-new, got-stored, length-stored}
 use Rattle.promises.proofs.TurnLaws.{own-handle, tidy-opened, Left, listing, shut, append-nil}
+use Rattle.promises.proofs.TidyHolds.{slot-free, handle-new, handle-there}
 use Rattle.promises.proofs.TurnHolds.{FollowedIn, follow-step, follow-run}
 
 -- ---- a page is never empty but at the end

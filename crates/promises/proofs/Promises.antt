@@ -1,5 +1,5 @@
--- THE PROMISES, each in one place and in the user's order. What they speak of is in specs/: Box, Refusal, Outcome, Diary, ReadBack, Turn. That they are about
--- the code is ContractsHold.antt; that they do not hold because nothing happens is the last part.
+-- THE PROMISES, each in one place and in the user's order. What they speak of is in specs/: Box, Checks, Mounting, Refusal, Accepted, Outcome, Diary, ReadBack, Turn,
+-- TwoWeaves. That they are about the code is ContractsHold.antt; that they do not hold because nothing happens is the last part.
 -- Assumes nothing.
 use mathlib.Core.Path.{_≡_, refl, ap}
 use mathlib.Core.Bool.{Bool, true, false}
@@ -27,41 +27,42 @@ use Rattle.takes.specs.Payloads.{payloadBytes}
 use Rattle.host.specs.declared.Fate.the-variants.{Discarded, Running, Committed}
 use Rattle.host.specs.Hosts.{Lent, lentAs, lengthsOf, withWeave, lentCheck}
 use Rattle.writes.specs.Stage.{headerFor, isPanic, writtenTopic}
+use Rattle.host.specs.declared.Host.{Host}
 use Rattle.mounts.specs.Mount.{mounted}
 use Rattle.reads.specs.Paging.{nextPart, nextAnswer, nextCheck}
 use Rattle.reads.specs.Reading.{readTopic, readList, readAnswer, readCheck}
 use Rattle.promises.specs.Box.{World, recordsOn, cardRecords, stagedRecords, LendsBytes, Op, Begin, Ingress, Write, Read, Open, Next, Close, Return, LookUp, Answered, Ended, Part, step, isRefused, codeOf, saidNumber, memoryOf, mountedAs, run}
 use Rattle.promises.specs.Refusal.{Unchanged, OnlyThere}
-use Rattle.promises.specs.Checks.{Passed, failing, checksOf, answers}
+use Rattle.promises.specs.Checks.{Passed, failing, checksOf, answers, tooLate}
 use Rattle.promises.specs.Mounting.{mountChecks, StateOf, noLengths}
-use Rattle.promises.specs.Accepted.{BeginMay, IngressMay, WriteMay, ReadMay, OpenMay, NextMay, CloseMay}
+use Rattle.promises.specs.Accepted.{Lawful, BeginMay, IngressMay, WriteMay, ReadMay, OpenMay, NextMay, CloseMay}
 use Rattle.promises.specs.Outcome.{Conditions, InNumbers, Unhindered, moduleCount, Reason, nextTurn, returnsIn, RunsOn, SameCard, saysCommitted, NoneCommitted, Appended, butFaulted, PanicLeft, Begun, SameWeave}
 use Rattle.promises.specs.Diary.{Diary, answerOf, ingressRecord, writtenRecord, firstPage, diary, Agrees}
-use Rattle.promises.specs.ReadBack.{HasPage, ReadOf}
 use Rattle.promises.specs.Turn.{InTurn, handedOver, listLeft, FirstPart, Nexts, Allowed, ListedOf, AskedBy}
-use Rattle.promises.proofs.RefusalHolds.{next-there, read-there}
-use Rattle.promises.proofs.MovesHold.{moved}
-use Rattle.promises.proofs.AcceptedLaws.{settle-ok}
-use Rattle.promises.proofs.AcceptedHolds.{begin-exactly, ingress-exactly, write-exactly, read-exactly, open-exactly, next-exactly, close-exactly}
-use Rattle.promises.proofs.AskedHolds.{asked-by, panic-left, codes-are, refusal-number}
+use Rattle.promises.specs.ReadBack.{HasPage, ReadOf}
+use Rattle.promises.specs.TwoWeaves.{saidOver, twoModules, theCalls, theAnswers}
+use Rattle.promises.proofs.AcceptedLaws.{lawful, fine-lawful, settle-ok}
 use Rattle.promises.proofs.OutcomeHolds.{committed-exactly}
+use Rattle.promises.proofs.ReturnHolds.{in-numbers, discarded-exactly, running-exactly, turn-passes}
+use Rattle.promises.proofs.ChecksHold.{code-is, accepted-exactly}
+use Rattle.promises.proofs.AcceptedHolds.{begin-exactly, ingress-exactly, write-exactly, read-exactly, open-exactly, next-exactly, close-exactly}
+use Rattle.promises.proofs.AnswersHold.{answers-are, late-is}
+use Rattle.promises.proofs.MountHolds.{mounts}
+use Rattle.promises.proofs.MovesHold.{moved}
+use Rattle.promises.proofs.RefusalHolds.{next-there, read-there}
+use Rattle.promises.proofs.WeaveHolds.{begin-sets, weave-stays, life-idle, life-timed}
+use Rattle.promises.proofs.CountHolds.{turn-counted}
 use Rattle.promises.proofs.CardHolds.{only-commit, commit-appends, discard-restores}
 use Rattle.promises.proofs.DiaryHolds.{lends-memory, life-agrees}
+use Rattle.promises.proofs.LifeHolds.{life-sane}
+use Rattle.promises.proofs.AskedHolds.{asked-by, panic-left, codes-are, refusal-number}
 use Rattle.promises.proofs.ReadBackHolds.{write-reads-back, ingress-reads-back, kept-found, staged-found, page-stands, read-page-stands}
 use Rattle.promises.proofs.ReadHolds.{read-lists, read-zero}
-use Rattle.promises.proofs.LifeHolds.{life-sane}
-use Rattle.promises.proofs.WeaveHolds.{begin-sets, weave-stays, life-idle, life-timed}
-use Rattle.promises.proofs.ChecksHold.{code-is, accepted-exactly}
-use Rattle.promises.proofs.AnswersHold.{answers-are}
-use Rattle.promises.proofs.MountHolds.{mounts}
-use Rattle.promises.proofs.ReturnHolds.{in-numbers, discarded-exactly, running-exactly, turn-passes}
-use Rattle.promises.proofs.CountHolds.{turn-counted}
 use Rattle.promises.proofs.TidyHolds.{life-tidy}
 use Rattle.promises.proofs.PagesHold.{open-lists, first-part, end-exactly, drained}
 use Rattle.promises.proofs.ListHolds.{all-allowed, every-allowed, within-limit, all-listed}
-use Rattle.promises.specs.TwoWeaves.{saidOver, twoModules, theCalls, theAnswers}
-use Rattle.promises.proofs.TwoRuns.{all-said}
 use Rattle.promises.proofs.CommitRuns.{oneModule, commits-one}
+use Rattle.promises.proofs.TwoRuns.{all-said}
 
 -- ==== 1. "a refusal changes no lent byte and, but for the spoiled mark, no state"
 
@@ -101,6 +102,11 @@ accepted-exactly-when-no-check-fails = accepted-exactly
 pub an-accepted-call-answers : (w : World) (o : Op) → isRefused (step w o .said) ≡ false → answerOf (step w o .said) ≡ answers w o
 an-accepted-call-answers = answers-are
 
+-- ingress comes "only before the first accepted module call or return of the weave": these make it too late, begin makes it welcome, nothing else changes that
+pub ingress-is-too-late-after-the-first-accepted-call : (w : World) (o : Op) → isRefused (step w o .said) ≡ false → step w o .world .host .weave .running ≡ true
+    → step w o .world .host .weave .late ≡ tooLate w o
+ingress-is-too-late-after-the-first-accepted-call = late-is
+
 -- mount: its code likewise, "-3: with the offset of the first record not sound"; refused "its state all 0", else "a fresh state"; and no byte is changed
 module _ (l : Lent) (used : ℕ) where
   pub mount-gives-the-code : mounted l used .code ≡ failing (mountChecks l used)
@@ -118,7 +124,11 @@ module _ (l : Lent) (used : ℕ) where
   pub a-mount-changes-no-byte : mountedAs l used .lent ≡ l
   a-mount-changes-no-byte = refl
 
--- in words of its own: each call is accepted exactly when all holds that it asks
+-- in words of its own: check 1 passes exactly when this holds
+pub check-1-passes-exactly-when : (l : Lent) (h : Host) → (isFine (lentCheck l h) ≡ true) ↔ Lawful l h
+check-1-passes-exactly-when l h = (lawful l h, fine-lawful l h)
+
+-- .. and each call is accepted exactly when all holds that it asks
 pub begin-is-accepted-exactly-when : (w : World) (args : List ℕ) → (isRefused (step w (Begin args) .said) ≡ false) ↔ BeginMay (w .lent) (w .host) args
 begin-is-accepted-exactly-when = begin-exactly
 
@@ -151,6 +161,15 @@ pub committed-exactly-when : (w : World) (code : ℤ) (events bytes : ℕ)
     ↔ (Conditions (w .lent) (w .host) code × ((events ≡ w .host .weave .count) × (bytes ≡ w .host .weave .staged)))
 committed-exactly-when = committed-exactly
 
+-- then exactly the staged bytes were appended, and no other card byte changed
+pub committed-means-appended : (w : World) (code : ℤ) (events bytes : ℕ) → step w (Return code) .said ≡ Ended (Committed events bytes)
+    → Appended w (step w (Return code) .world)
+committed-means-appended = commit-appends
+
+-- nothing else changes the card
+pub only-a-commit-changes-the-card : (w : World) (o : Op) → saysCommitted (step w o .said) ≡ false → SameCard w (step w o .world)
+only-a-commit-changes-the-card = only-commit
+
 -- "discard with its reason": exactly when 01 has that reason for it
 pub discarded-exactly-when : (w : World) (code : ℤ) (c : Code) → (step w (Return code) .said ≡ Ended (Discarded c)) ↔ Reason w code c
 discarded-exactly-when = discarded-exactly
@@ -167,21 +186,12 @@ the-next-module-has-its-turn = turn-passes
 pub a-return-in-numbers : (w : World) (code : ℤ) → InNumbers w code (step w (Return code) .said)
 a-return-in-numbers = in-numbers
 
--- the turn is one more than the accepted returns since begin, and these are fewer than the modules while the weave runs: with the last of them at the latest it
--- ends
+-- the turn is one more than the returns that were accepted since begin, and these are fewer than the modules while the weave runs: a weave of n modules ends with
+-- its n-th at the latest
 pub a-weave-ends-with-its-last-module : (w : World) (args : List ℕ) → isRefused (step w (Begin args) .said) ≡ false → (os : List Op) → RunsOn (step w (Begin args) .world) os
     → (run (step w (Begin args) .world) os .host .weave .turn ≡ 1 + returnsIn (step w (Begin args) .world) os)
     × (returnsIn (step w (Begin args) .world) os < moduleCount w)
 a-weave-ends-with-its-last-module = turn-counted
-
--- then exactly the staged bytes were appended, and no other card byte changed
-pub committed-means-appended : (w : World) (code : ℤ) (events bytes : ℕ) → step w (Return code) .said ≡ Ended (Committed events bytes)
-    → Appended w (step w (Return code) .world)
-committed-means-appended = commit-appends
-
--- nothing else changes the card
-pub only-a-commit-changes-the-card : (w : World) (o : Op) → saysCommitted (step w o .said) ≡ false → SameCard w (step w o .world)
-only-a-commit-changes-the-card = only-commit
 
 -- "Discard leaves the card, and the state as before begin (but for faulted)": from any box that a mount and any calls lead to, with no weave running, through
 -- any calls none of which says committed; "Both leave staging all 0"

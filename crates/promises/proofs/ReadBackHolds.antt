@@ -26,6 +26,7 @@ use Rattle.card.proofs.PageLaws.{size-fit}
 use Rattle.weave.specs.Codes.{isFine}
 use Rattle.weave.specs.Moves.{cursorOf}
 use Rattle.weave.specs.Args.{writeArgs, readArgs, nextArgs}
+use Rattle.weave.proofs.CodeLaws.{first-left}
 use Rattle.takes.specs.Payloads.{payloadBytes}
 use Rattle.host.specs.Hosts.{lentCheck}
 use Rattle.writes.specs.Stage.{headerFor, ingressCheck, ingressAnswer, ingressStaging, isPanic, writtenTopic, writeCheck, writeAnswer, writeStaging}
@@ -34,15 +35,14 @@ use Rattle.mounts.specs.Mount.{looked}
 use Rattle.reads.specs.Reading.{readSound, readList, readCheck, readAnswer, readMemory}
 use Rattle.reads.proofs.PagingLaws.{next-lies}
 use Rattle.reads.proofs.ReadingLaws.{out-lies}
-use Rattle.weave.proofs.CodeLaws.{first-left}
 use Rattle.promises.specs.Box.{World, Ingress, Write, Read, Next, LookUp, Part, step, isRefused}
 use Rattle.promises.specs.Diary.{Diary, ingressRecord, writtenRecord, Agrees}
 use Rattle.promises.specs.ReadBack.{HasPage}
 use Rattle.promises.proofs.AcceptedLaws.{settle-ok}
 use Rattle.promises.proofs.AcceptedHolds.{ingress-exactly, write-exactly}
 use Rattle.promises.proofs.StagedLaws.{ingress-back, write-back}
-use Rattle.promises.proofs.PagesHold.{all-at}
 use Rattle.promises.proofs.ShownLaws.{has-page}
+use Rattle.promises.proofs.PagesHold.{all-at}
 
 -- ---- the record that was staged
 

@@ -21,8 +21,8 @@ use Rattle.promises.specs.Diary.{answerOf}
 use Rattle.promises.specs.ReadBack.{ReadOf}
 use Rattle.promises.proofs.AcceptedHolds.{read-exactly}
 use Rattle.promises.proofs.AnswersHold.{answers-are, page-bytes}
-use Rattle.promises.proofs.ListHolds.{members}
 use Rattle.promises.proofs.PagesHold.{Long, records-long, page-zero, zero-page}
+use Rattle.promises.proofs.ListHolds.{members}
 
 module _ (w : World) (m : List ℕ) (at : ℕ) where
   abbrev wanted : List ℕ → Bool
@@ -35,8 +35,12 @@ module _ (w : World) (m : List ℕ) (at : ℕ) where
         mem-only wanted r (stagedRecords w)
         (and-both (sameBytes (topicOf r) (readTopic m at)) _ (rw t (same-refl (readTopic m at))) (le-leb (readArgs m at .start .0) (idOf r) s)) i;
     of-these = all-only (λ (r : List ℕ). List·Memᴰ r (stagedRecords w)) wanted (stagedRecords w) (members (stagedRecords w));
-    topics = all-map (λ (r : List ℕ). wanted r ≡ true) _ (λ r e. same-true (topicOf r) (readTopic m at) (and-left (sameBytes (topicOf r) (readTopic m at)) _ e)) (only wanted (stagedRecords w)) (only-passes wanted (stagedRecords w));
-    ids = all-map (λ (r : List ℕ). wanted r ≡ true) _ (λ r e. leb-true (readArgs m at .start .0) (idOf r) (and-right (sameBytes (topicOf r) (readTopic m at)) _ e)) (only wanted (stagedRecords w)) (only-passes wanted (stagedRecords w));
+    topics =
+        all-map (λ (r : List ℕ). wanted r ≡ true) _
+        (λ r e. same-true (topicOf r) (readTopic m at) (and-left (sameBytes (topicOf r) (readTopic m at)) _ e)) (only wanted (stagedRecords w)) (only-passes wanted (stagedRecords w));
+    ids =
+        all-map (λ (r : List ℕ). wanted r ≡ true) _
+        (λ r e. leb-true (readArgs m at .start .0) (idOf r) (and-right (sameBytes (topicOf r) (readTopic m at)) _ e)) (only wanted (stagedRecords w)) (only-passes wanted (stagedRecords w));
     in-order = sorted-only (λ (a b : List ℕ). idOf a < idOf b) wanted (stagedRecords w) (records-rise (stagedPart (w .lent) (w .host)) (w .host .next .0));
   }
 

@@ -27,8 +27,8 @@ use Rattle.promises.specs.Box.{World, Return, Ended, step}
 use Rattle.promises.specs.Outcome.{Returns, Unhindered, moduleCount, stagedChained, InNumbers, Reason, overspent, panicked, own, other, unsound, no-room, nextTurn}
 use Rattle.promises.proofs.AcceptedLaws.{lawful}
 use Rattle.promises.proofs.OutcomeHolds.{Fated, turned-away, has-reason, turns-on, ends-badly, ends-well, fated, fateIn, return-runs, unspoilt, good-code, code-good, committed-exactly}
-use Rattle.promises.proofs.AskedHolds.{refusal-number}
 use Rattle.promises.proofs.ChecksHold.{code-is}
+use Rattle.promises.proofs.AskedHolds.{refusal-number}
 
 -- ---- codes and numbers
 
@@ -147,10 +147,23 @@ module _ (w : World) (code : ℤ) where
       rw (fine r, s, ← reason-other code (λ q. n Fine (sym q)) o (λ q. n Denied (sym q)) (λ q. n NotNow (sym q)) (λ q. n Unsound (sym q)) (λ q. n NoRoom (sym q)) (λ q. n Bad (sym q)) (λ q. n Budget (sym q)) (λ q. n BadValue (sym q)))
   discards c (unsound u t s) =
       let law = lawful (w .lent) (w .host) (u .returns .check-1) in
-      rw (fine (u .returns), no-reason u, le-ltb (w .host .weave .turn) (moduleCount w) (omega (arith, t)), added-sum (w .host .next .0) (w .host .weave .count) (2 ^ 63) (law .numbers), s)
+      rw (
+        fine (u .returns),
+        no-reason u,
+        le-ltb (w .host .weave .turn) (moduleCount w) (omega (arith, t)),
+        added-sum (w .host .next .0) (w .host .weave .count) (2 ^ 63) (law .numbers),
+        s,
+      )
   discards c (no-room u t s f) =
       let law = lawful (w .lent) (w .host) (u .returns .check-1) in
-      rw (fine (u .returns), no-reason u, le-ltb (w .host .weave .turn) (moduleCount w) (omega (arith, t)), added-sum (w .host .next .0) (w .host .weave .count) (2 ^ 63) (law .numbers), s, lt-leb (w .host .used + w .host .weave .staged) (length (w .lent .card)) f)
+      rw (
+        fine (u .returns),
+        no-reason u,
+        le-ltb (w .host .weave .turn) (moduleCount w) (omega (arith, t)),
+        added-sum (w .host .next .0) (w .host .weave .count) (2 ^ 63) (law .numbers),
+        s,
+        lt-leb (w .host .used + w .host .weave .staged) (length (w .lent .card)) f,
+      )
 
   -- THE PROMISE: discarded with a code exactly when 01 has that reason for it
   pub discarded-exactly : (c : Code) → (step w (Return code) .said ≡ Ended (Discarded c)) ↔ Reason w code c

@@ -21,8 +21,8 @@ use Rattle.text.proofs.FlagLaws.{flags-most}
 use Rattle.value.specs.Forms.{payload}
 use Rattle.record.specs.Record.{recordBytes}
 use Rattle.record.specs.Good.{goodKind, goodName, goodPayload, goodRecord}
-use Rattle.record.proofs.GoodLaws.{length-record, record-good}
 use Rattle.record.specs.Written.{Written}
+use Rattle.record.proofs.GoodLaws.{length-record, record-good}
 use Rattle.record.proofs.WrittenLaws.{raw-payload, value-payload, written as written-law}
 use Rattle.weave.specs.Args.{writeArgs, topicFine}
 use Rattle.weave.proofs.SumLaws.{added-sum}
@@ -32,8 +32,8 @@ use Rattle.host.specs.declared.Host.{Host}
 use Rattle.host.specs.Hosts.{Lent}
 use Rattle.writes.specs.Stage.{roomFine, headerFor, writtenTopic, dataLen, isPanic}
 use Rattle.writes.proofs.StageLaws.{room-fits, room-counted}
-use Rattle.promises.specs.Accepted.{IngressMay, WriteMay}
-use Rattle.promises.proofs.AcceptedLaws.{Lawful, lawful, turn-16}
+use Rattle.promises.specs.Accepted.{Lawful, IngressMay, WriteMay}
+use Rattle.promises.proofs.AcceptedLaws.{lawful, turn-16}
 
 -- a record r of n bytes that may be staged: it fits behind what is staged, it is good with the next number, and the counts go up by one and by n
 pub record Stageable (l : Lent) (h : Host) (r : List ℕ) (n : ℕ) : Type 0 where

@@ -12,8 +12,7 @@ use Rattle.le.proofs.TestLaws.{and-left, and-right}
 use Rattle.weave.specs.declared.Weave.{Weave}
 use Rattle.weave.specs.Sums.{added}
 use Rattle.weave.specs.Table.{hasHandle, slotPlace}
-use Rattle.weave.specs.Moves.{openedWith, movedTo, closedAt}
-use Rattle.weave.specs.States.{freshWeave, begunWeave, paid, holding, tabled, spoilt, turned}
+use Rattle.weave.specs.States.{freshWeave, begunWeave}
 use Rattle.weave.specs.Checks.{handleFine, slotFine}
 use Rattle.weave.proofs.SumLaws.{added-sum}
 use Rattle.takes.specs.Begun.{begun}
@@ -21,10 +20,10 @@ use Rattle.host.specs.Hosts.{Lent, withWeave}
 use Rattle.host.specs.Ending.{committed}
 use Rattle.promises.specs.Box.{World, Op, step, mountedAs, run}
 use Rattle.promises.specs.Turn.{Tidy, TidyIn}
-use Rattle.promises.proofs.TurnLaws.{tidy-none, tidy-free, tidy-moved, tidy-opened}
-use Rattle.promises.proofs.MoveLaws.{Change, Marks, Stages, Writes, Pays, Opens, Hands, Closes, Panics, Turns, Move, Rests, Begins, GoesOn, Commits, Discards, weaveAfter, after}
+use Rattle.promises.proofs.MountHolds.{mount-fresh}
+use Rattle.promises.proofs.MoveLaws.{Cursors, Same, Opens, Hands, Closes, Cleared, Move, Rests, Begins, GoesOn, Commits, Discards, openedAfter, slotsAfter, after}
 use Rattle.promises.proofs.MovesHold.{moved}
-use Rattle.promises.proofs.MountLaws.{mount-fresh}
+use Rattle.promises.proofs.TurnLaws.{tidy-none, tidy-free, tidy-moved, tidy-opened}
 
 -- ---- what check 9 says of the table
 
@@ -46,26 +45,21 @@ handle-there w t k f = rw (t .four) (ltb-true (slotPlace (hasHandle k) (w .slots
 
 -- ---- any move
 
-change-tidy : (w : World) (o : Op) (c : Change w o) → TidyIn w → Tidy (weaveAfter w o c .slots) (weaveAfter w o c .opened)
-unfolding spoilt holding paid tabled turned openedWith movedTo closedAt
-change-tidy w o Marks t = t
-change-tidy w o (Stages r n g) t = t
-change-tidy w o (Writes r n b g) t = t
-change-tidy w o (Pays charge b) t = t
-change-tidy w o (Opens s e f b) t =
+cursors-tidy : (w : World) (o : Op) (c : Cursors w o) → TidyIn w → Tidy (slotsAfter w o c) (openedAfter w o c)
+cursors-tidy w o Same t = t
+cursors-tidy w o (Opens s e f) t =
     let new = handle-new (w .host .weave) f in
     rw new (tidy-opened (w .host .weave .slots) (w .host .weave .opened) t (slotPlace (hasHandle 0) (w .host .weave .slots)) s (rw new at e))
-change-tidy w o (Hands k cap f b) t =
+cursors-tidy w o (Hands k room f) t =
     tidy-moved (w .host .weave .slots) (w .host .weave .opened) t k _ refl (handle-there (w .host .weave) t k f)
-change-tidy w o (Closes k f b) t = tidy-free (w .host .weave .slots) (w .host .weave .opened) t (slotPlace (hasHandle k) (w .host .weave .slots))
-change-tidy w o Panics t = t
-change-tidy w o (Turns i low) t = tidy-none (w .host .weave .opened)
+cursors-tidy w o (Closes k f) t = tidy-free (w .host .weave .slots) (w .host .weave .opened) t (slotPlace (hasHandle k) (w .host .weave .slots))
+cursors-tidy w o (Cleared i) t = tidy-none (w .host .weave .opened)
 
 tidy-move : (w : World) (o : Op) (m : Move w o) → TidyIn w → TidyIn (after w o m)
 unfolding withWeave begun begunWeave freshWeave committed
 tidy-move w o Rests t = t
 tidy-move w o (Begins args i b) t = tidy-none 0
-tidy-move w o (GoesOn r c) t = change-tidy w o c t
+tidy-move w o (GoesOn r c) t = cursors-tidy w o (c .cursors) t
 tidy-move w o (Commits i s code c) t = tidy-none 0
 tidy-move w o (Discards i) t = tidy-none 0
 

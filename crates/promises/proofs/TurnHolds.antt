@@ -10,19 +10,18 @@ use lib.Dec.{eqb}
 use lib.ListN.{length, getD, set}
 use Rattle.le.proofs.TestLaws.{Tested, passes, fails, tested}
 use Rattle.card.specs.Pick.{All}
-use Rattle.weave.specs.declared.Slot.{Slot}
 use Rattle.card.specs.Listing.{fit, advance}
+use Rattle.weave.specs.declared.Slot.{Slot}
 use Rattle.weave.specs.Checks.{handleFine}
 use Rattle.weave.specs.Table.{freeSlot, hasHandle, slotPlace}
-use Rattle.weave.specs.Moves.{cursorOf, openedWith, movedTo, closedAt}
-use Rattle.weave.specs.States.{paid, holding, tabled, spoilt}
+use Rattle.weave.specs.Moves.{cursorOf}
 use Rattle.reads.specs.Paging.{nextList}
 use Rattle.promises.specs.Box.{World, Op, step, run}
 use Rattle.promises.specs.Turn.{InTurn, givenBy, handedOver}
+use Rattle.promises.proofs.MoveLaws.{Cursors, Same, Opens, Hands, Closes, Cleared, Turning, Stays, Turns, Move, Rests, Begins, GoesOn, Commits, Discards, openedAfter, slotsAfter, turnAfter, after, handedOn, handedBy}
+use Rattle.promises.proofs.MovesHold.{moved}
 use Rattle.promises.proofs.SlotLaws.{place-passes}
 use Rattle.promises.proofs.TurnLaws.{other-handle, handle-is, free-handle, tidy-free, tidy-moved, tidy-opened, Followed, append-nil, follow-still, follow-other, follow-own, follow-shut}
-use Rattle.promises.proofs.MoveLaws.{Change, Marks, Stages, Writes, Pays, Opens, Hands, Closes, Panics, Turns, Move, Rests, Begins, GoesOn, Commits, Discards, after, handedOn, handedBy}
-use Rattle.promises.proofs.MovesHold.{moved}
 use Rattle.promises.proofs.TidyHolds.{handle-new, handle-there}
 
 abbrev pub FollowedIn : World → ℕ → List (List ℕ) → List (List ℕ) → Type 0
@@ -78,28 +77,26 @@ module _ (w : World) (k : ℕ) (whole out : List (List ℕ)) (f : FollowedIn w k
             follow-other _ _ _ _ _ _ _ k whole out f place freeSlot (w .host .weave .opened) (free-handle k (f .least))
             (not-k j (eqb-false j k q)) (tidy-free slots′ (w .host .weave .opened) (f .tidy) place) (f .most)
 
-  module _ (o : Op) (r : w .host .weave .running ≡ true) where
-    change-followed : (c : Change w o) → InTurn o → FollowedIn (after w o (GoesOn r c)) k whole (out ++ handedOn k w o c)
-    unfolding spoilt holding paid tabled openedWith movedTo closedAt
-    change-followed Marks i = still
-    change-followed (Stages t n g) i = still
-    change-followed (Writes t n b g) i = still
-    change-followed (Pays charge b) i = still
-    change-followed (Opens s e fine b) i =
-        let new = handle-new (w .host .weave) fine in
-        let is : s .handle ≡ w .host .weave .opened + 1 = e ∙ new in
-        rw (new, append-nil out)
-        (follow-other _ _ _ _ _ _ _ k whole out f (slotPlace (hasHandle 0) slots′) s (w .host .weave .opened + 1) (other-handle k s (λ q. omega (arith, f .most)))
-        (not-k 0 (λ q. omega (arith, f .least))) (tidy-opened slots′ (w .host .weave .opened) (f .tidy) (slotPlace (hasHandle 0) slots′) s is) (omega (arith, f .most)))
-    change-followed (Hands j n e b) i = hands-followed j e n
-    change-followed (Closes j e b) i = closes-followed j e
-    change-followed Panics i = still
-    change-followed (Turns never low) i = absurd (never i)
+  cursors-followed : (o : Op) (c : Cursors w o) → InTurn o → FollowedBy (slotsAfter w o c) (openedAfter w o c) (out ++ handedOn k w o c)
+  cursors-followed o Same i = still
+  cursors-followed o (Opens s e fine) i =
+      let new = handle-new (w .host .weave) fine in
+      let is : s .handle ≡ w .host .weave .opened + 1 = e ∙ new in
+      rw (new, append-nil out)
+      (follow-other _ _ _ _ _ _ _ k whole out f (slotPlace (hasHandle 0) slots′) s (w .host .weave .opened + 1) (other-handle k s (λ q. omega (arith, f .most)))
+      (not-k 0 (λ q. omega (arith, f .least))) (tidy-opened slots′ (w .host .weave .opened) (f .tidy) (slotPlace (hasHandle 0) slots′) s is) (omega (arith, f .most)))
+  cursors-followed o (Hands j n e) i = hands-followed j e n
+  cursors-followed o (Closes j e) i = closes-followed j e
+  cursors-followed o (Cleared never) i = absurd (never i)
+
+  same-turn : (o : Op) (t : Turning w o) → InTurn o → turnAfter w o t ≡ w .host .weave .turn
+  same-turn o Stays i = refl
+  same-turn o (Turns never low) i = absurd (never i)
 
   follow-move : (o : Op) (m : Move w o) → InTurn o → FollowedIn (after w o m) k whole (out ++ handedBy k w o m)
   follow-move o Rests i = still
   follow-move o (Begins args idle b) i = absurd (true≢false (sym (f .runs) ∙ idle))
-  follow-move o (GoesOn r c) i = change-followed o r c i
+  follow-move o (GoesOn r c) i = rw (same-turn o (c .turn) i) (cursors-followed o (c .cursors) i)
   follow-move o (Commits never s code c) i = absurd (never i)
   follow-move o (Discards never) i = absurd (never i)
 

@@ -1,225 +1,71 @@
 -- The run of two modules, on every empty card with room for one event.
 -- Assumes nothing.
-use mathlib.Core.Path.{_≡_, refl, sym, ap, subst, _∙_}
-use mathlib.Core.Bool.{Bool, true, false, _&&_}
+use mathlib.Core.Path.{_≡_, refl, sym, ap, _∙_}
+use mathlib.Core.Bool.{Bool, true, false}
 use mathlib.Core.List.{List, [], _∷_, _++_}
-use Prim.Native.Nat.{ℕ, zero, suc, _+_, _/_, _^_, _≤_, _<_}
+use mathlib.Core.Logic.{inl}
+use Prim.Native.Nat.{ℕ, _+_, _/_, _^_, _≤_, _<_}
 use native.Mathlib.Omega.{arith}
-use borrow.Author.Tests.{ltb-true, le-leb}
-use lib.Dec.{ltb}
-use lib.ListN.{length, take, length-replicate}
-use Rattle.le.specs.Le.{Bytes, leAt, leBytes}
+use borrow.Author.Tests.{le-leb}
+use lib.ListN.{length, take}
+use lib.IntN.{pos}
+use Rattle.le.specs.Le.{leAt, leBytes}
 use Rattle.le.specs.Splice.{part, splice, zeros}
-use Rattle.le.proofs.TestLaws.{and-left, and-right}
-use Rattle.text.specs.Compare.{sameBytes}
-use Rattle.text.specs.Decimal.{numberOf, noLeadingZero, numberFrom, digits, valueFrom}
+use Rattle.text.specs.Compare.{sameBytes, prefixOf}
 use Rattle.text.specs.Flags.{goodFlags}
-use Rattle.text.specs.Lines.{closed, fields, lineAt, lines, field}
 use Rattle.text.specs.Span.{inside}
-use Rattle.text.specs.Topic.{goodText, goodTopic, noControl}
-use Rattle.text.specs.Utf8.{utf8, utf8From, after}
-use Rattle.text.specs.Words.{panicTopic, coreTopic, logTopic}
+use Rattle.text.specs.Sizes.{totalLen}
 use Rattle.value.specs.declared.Checked.{Checked}
-use Rattle.value.specs.declared.Fault.the-variants.{Fine as NoFault}
-use Rattle.manifest.specs.Line.{modulesIn, oneTo, holderIn, grantForm, rightIn}
-use Rattle.manifest.specs.Rights.{granted, anyGives, gives}
-use Rattle.manifest.specs.Words.{modulesWord, grantWord, inWord, outWord}
-use Rattle.manifest.specs.Saying.{isGood, modulesSaid, manifestOf, goodHead, modulesOf, grantLines, grantsSaid, goodGrants, allGrants, mayRead, mayWrite}
-use Rattle.weave.specs.Args.{recordFine, fieldAt, writeArgs, readArgs, openArgs, nextArgs, closeHandle, topicFine, filterFine, outFine, payloadFine}
-use Rattle.takes.specs.Payloads.{payloadChecked, payloadBytes}
-use Rattle.takes.specs.Begun.{argAt, begun}
-use Rattle.card.specs.Pick.{All, only}
-use Rattle.card.specs.Listing.{listed, turn, listOf, fit, pageOf, unfit, advance}
-use Rattle.card.proofs.ListingLaws.{fit-lists}
-use Rattle.card.specs.declared.Page.the-variants.{End, Bytes as Sized}
-use Rattle.card.specs.Records.{upTo, records}
-use Rattle.card.specs.Walk.{chain}
-use Rattle.weave.specs.declared.Code.the-variants.{Fine}
-use Rattle.weave.specs.Codes.{isFine, need}
-use Rattle.weave.specs.States.{freshWeave, begunWeave, paid, holding, tabled}
-use Rattle.host.specs.Hosts.{Lent, lentAs, lengthsOf, withWeave, lentCheck, settle}
-use Rattle.host.specs.Begin.{beginCheck, beginAnswer, beginStaging}
-use Rattle.host.specs.Hosts.{freshHost}
-use Rattle.mounts.specs.Mount.{sizesFine, mountCheck, mountedBy, mounted}
-use Rattle.writes.specs.Stage.{roomFine, headerFor, isPanic, writtenTopic, dataLen, writeCharge, written, writeCheck, writeAnswer, writeStaging}
-use Rattle.host.specs.declared.Fate.the-variants.{Running, Committed}
+use Rattle.manifest.specs.Rights.{granted}
+use Rattle.manifest.specs.Saying.{mayRead}
 use Rattle.record.specs.Record.{idOf, topicOf}
 use Rattle.record.specs.Written.{Written}
-use Rattle.text.specs.Sizes.{totalLen}
+use Rattle.card.specs.Pick.{only}
+use Rattle.card.specs.Listing.{listed, turn, listOf, fit, pageOf, unfit, advance}
+use Rattle.card.specs.declared.Page.the-variants.{End, Bytes as Sized}
+use Rattle.card.specs.Records.{upTo, records}
+use Rattle.card.specs.declared.Cursor.{Cursor}
+use Rattle.card.proofs.ListingLaws.{fit-lists}
+use Rattle.weave.specs.Args.{recordFine, fieldAt, writeArgs, openArgs}
+use Rattle.weave.specs.declared.Code.the-variants.{Fine}
+use Rattle.weave.specs.Codes.{isFine}
+use Rattle.weave.specs.States.{freshWeave, begunWeave, paid, holding, tabled}
 use Rattle.weave.specs.Sums.{added}
-use Rattle.weave.proofs.SumLaws.{added-sum}
-use mathlib.Core.Logic.{inl}
-use lib.IntN.{pos}
-use Rattle.reads.specs.Reading.{readSound, readList, readPage, readCheck, readAnswer}
-use Rattle.takes.specs.Pages.{pageCharge}
-use Rattle.weave.proofs.CodeLaws.{first-left}
-use Rattle.promises.specs.Accepted.{WriteMay, ReadMay, OpenMay, NextMay, CloseMay}
-use Rattle.promises.specs.Box.{World, recordsOn, cardRecords, Op, Begin, Write, Read, Open, Next, Close, Return, Answered, Ended, step, isRefused, memoryOf, mountedAs, run}
-use Rattle.promises.specs.Diary.{Diary, writtenRecord, noted, firstPage, Agrees}
-use Rattle.promises.proofs.AcceptedLaws.{settle-ok}
-use Rattle.promises.proofs.AcceptedHolds.{begin-exactly, write-exactly, read-exactly, open-exactly, next-exactly, close-exactly, read-page, next-page}
 use Rattle.weave.specs.declared.Slot.{Slot}
 use Rattle.weave.specs.Table.{freeSlot, noSlots, hasHandle, slotPlace, slotOf}
 use Rattle.weave.specs.Checks.{slotFine, handleFine}
-use Rattle.card.specs.declared.Cursor.{Cursor}
-use Rattle.text.specs.Compare.{prefixOf}
-use Rattle.reads.specs.Paging.{nextSound, nextList, nextPage, nextCheck, nextCursor, nextHost, nextAnswer}
-use Rattle.promises.specs.Turn.{listLeft, Allowed}
-use Rattle.promises.proofs.AskedHolds.{asked-by}
-use Rattle.promises.proofs.ListHolds.{means-listed}
 use Rattle.weave.specs.Moves.{cursorOf, openedWith, movedTo, closedAt}
+use Rattle.weave.proofs.SumLaws.{added-sum}
+use Rattle.weave.proofs.CodeLaws.{first-left}
+use Rattle.takes.specs.Payloads.{payloadBytes}
+use Rattle.takes.specs.Begun.{argAt, begun}
+use Rattle.takes.specs.Pages.{pageCharge}
 use Rattle.takes.specs.Opening.{opening}
+use Rattle.host.specs.Hosts.{Lent, lentAs, withWeave, lentCheck, settle}
+use Rattle.host.specs.Begin.{beginCheck, beginAnswer, beginStaging}
+use Rattle.host.specs.Hosts.{freshHost}
+use Rattle.mounts.specs.Mount.{mounted}
+use Rattle.writes.specs.Stage.{roomFine, headerFor, writtenTopic, dataLen, writeCharge, written, writeCheck, writeAnswer, writeStaging}
+use Rattle.host.specs.declared.Fate.the-variants.{Running, Committed}
+use Rattle.reads.specs.Reading.{readSound, readList, readPage, readCheck, readAnswer}
+use Rattle.reads.specs.Paging.{nextSound, nextList, nextPage, nextCheck, nextCursor, nextHost, nextAnswer}
 use Rattle.host.specs.Cursors.{openCheck, openNext, openAnswer, closeCheck, closeNext, closeAnswer}
 use Rattle.host.specs.Ending.{committed, finished, returnAnswer, returnCard, returnStaging}
+use Rattle.promises.specs.Box.{World, recordsOn, cardRecords, Begin, Write, Read, Open, Next, Close, Return, Answered, Ended, step, isRefused, mountedAs}
+use Rattle.promises.specs.Accepted.{WriteMay, ReadMay, OpenMay, NextMay, CloseMay}
 use Rattle.promises.specs.Outcome.{Conditions, nextTurn}
-use Rattle.promises.proofs.OutcomeHolds.{commits, committed-exactly}
-use Rattle.promises.proofs.ReadBackHolds.{write-reads-back}
-use Rattle.promises.proofs.ReturnHolds.{running-exactly, turn-passes}
-use Rattle.promises.proofs.DiaryHolds.{agrees-step, mount-agrees}
-use Rattle.promises.proofs.LifeHolds.{life-sane}
-use Rattle.promises.proofs.MountHolds.{mounts}
+use Rattle.promises.specs.Diary.{Diary, writtenRecord, firstPage}
+use Rattle.promises.specs.Turn.{listLeft, Allowed}
 use Rattle.promises.specs.TwoWeaves.{saidOver, twoModules, hundred, memory, theCalls, theAnswers}
-
-long-memory : length memory ≡ 312
-unfolding memory leBytes
-long-memory = refl
-
-said-good : isGood (manifestOf twoModules) ≡ true
-unfolding manifestOf goodHead modulesOf grantLines grantsSaid goodGrants allGrants closed modulesIn fields lineAt lines sameBytes field modulesWord oneTo numberOf noLeadingZero numberFrom digits valueFrom holderIn grantForm grantWord inWord outWord goodText utf8 utf8From after noControl
-said-good = refl
-
-said-two : modulesSaid (manifestOf twoModules) ≡ 2
-unfolding manifestOf goodHead modulesOf grantLines grantsSaid goodGrants allGrants closed modulesIn fields lineAt lines sameBytes field modulesWord oneTo numberOf noLeadingZero numberFrom digits valueFrom holderIn grantForm grantWord inWord outWord goodText utf8 utf8From after noControl
-said-two = refl
-
-may-write : mayWrite twoModules 1 (116 ∷ []) ≡ true
-unfolding mayWrite granted anyGives gives rightIn coreTopic logTopic panicTopic manifestOf goodHead modulesOf grantLines grantsSaid goodGrants allGrants closed modulesIn fields lineAt lines sameBytes field modulesWord oneTo numberOf noLeadingZero numberFrom digits valueFrom holderIn grantForm grantWord inWord outWord goodText utf8 utf8From after noControl
-may-write = refl
-
-may-read : (mayRead twoModules 1 (116 ∷ []) ≡ true) × (mayRead twoModules 2 (116 ∷ []) ≡ true)
-unfolding mayRead granted anyGives gives rightIn manifestOf goodHead modulesOf grantLines grantsSaid goodGrants allGrants closed modulesIn fields lineAt lines sameBytes field modulesWord oneTo numberOf noLeadingZero numberFrom digits valueFrom holderIn grantForm grantWord inWord outWord goodText utf8 utf8From after noControl
-may-read = (refl, refl)
-
--- ---- the argument records
-
-topic-is : part 168 1 memory ≡ 116 ∷ []
-unfolding memory leBytes part
-topic-is = refl
-
-good-letter : goodTopic (116 ∷ []) ≡ true
-unfolding goodText utf8 utf8From after noControl
-good-letter = refl
-
-write-args : writeArgs memory 8 ≡ record { topic = record { ptr = 168; len = 1 }; place = 0; len = 0; flags = 1 }
-unfolding writeArgs fieldAt recordFine inside memory leBytes leAt
-write-args = refl
-
-read-args : readArgs memory 48 ≡ record { topic = record { ptr = 168; len = 1 }; start = record { 0 = 1 }; out = record { ptr = 176; len = 136 } }
-unfolding readArgs fieldAt recordFine inside memory leBytes leAt
-read-args = refl
-
-open-args : openArgs memory 88 ≡ record { topic = record { ptr = 168; len = 1 }; from = record { 0 = 1 }; to = record { 0 = 9 }; limit = 9; desc = 0 }
-unfolding openArgs fieldAt recordFine inside memory leBytes leAt
-open-args = refl
-
-next-args : nextArgs memory 136 ≡ record { handle = 1; out = record { ptr = 176; len = 136 } }
-unfolding nextArgs fieldAt recordFine inside memory leBytes leAt
-next-args = refl
-
-close-arg : closeHandle memory 160 ≡ 1
-unfolding fieldAt recordFine inside memory leBytes leAt
-close-arg = refl
-
-records-fine : (recordFine memory 8 40 ≡ true) × ((recordFine memory 48 40 ≡ true) × ((recordFine memory 88 48 ≡ true) × ((recordFine memory 136 24 ≡ true) × (recordFine memory 160 8 ≡ true))))
-unfolding recordFine inside memory leBytes
-records-fine = (refl, (refl, (refl, (refl, refl))))
-
-topic-fine : topicFine memory (record { ptr = 168; len = 1 }) ≡ true
-unfolding topicFine inside memory leBytes part goodText utf8 utf8From after noControl
-topic-fine = refl
-
-filter-fine : filterFine memory (record { ptr = 168; len = 1 }) ≡ true
-unfolding filterFine inside memory leBytes part goodText utf8 utf8From after noControl
-filter-fine = refl
-
-out-fine : outFine memory (record { ptr = 176; len = 136 }) ≡ true
-unfolding outFine inside memory leBytes
-out-fine = refl
-
--- ---- what the write has
-
-no-panic : isPanic memory 8 ≡ false
-unfolding writeArgs fieldAt recordFine inside memory leBytes leAt part sameBytes panicTopic
-no-panic = refl
-
-payload-fine : payloadFine memory (writeArgs memory 8) ≡ true
-unfolding payloadFine writeArgs fieldAt recordFine inside memory leBytes leAt
-payload-fine = refl
-
-raw : payloadChecked memory (writeArgs memory 8) ≡ record { fault = NoFault; len = 0 }
-unfolding payloadChecked writeArgs fieldAt recordFine inside memory leBytes leAt
-raw = refl
-
-below : List ℕ → Bool
-below [] = true
-below (b ∷ s) = ltb b 256 && below s
-
-bytes-below : (s : List ℕ) → below s ≡ true → Bytes s
-unfolding below
-bytes-below [] e i = omega arith
-bytes-below (b ∷ s) e zero = omega (arith, ltb-true b 256 (and-left (ltb b 256) _ e))
-bytes-below (b ∷ s) e (suc i) = bytes-below s (and-right (ltb b 256) _ e) i
-
-memory-bytes : Bytes memory
-unfolding below memory leBytes
-memory-bytes = bytes-below memory refl
-
-no-bytes : Bytes []
-no-bytes i = omega arith
-
-topic-long : writeArgs memory 8 .topic .len ≡ 1
-topic-long = rw write-args
-
-data-none : dataLen memory 8 ≡ 0
-data-none = ap (λ (k : Checked). k .len) raw
-
-topic-read : writtenTopic memory 8 ≡ 116 ∷ []
-topic-read = rw (write-args, topic-is)
-
-long-hundred : length hundred ≡ 128
-long-hundred = refl
-
--- ---- a box after some calls
-
-long : (k : ℕ) → length (zeros k) ≡ k
-long k = length-replicate {0} {A = ℕ} k 0
-
-record At (l : Lent) (os : List Op) (w : World) (d : Diary) : Type 0 where
-  is : run (mountedAs l 0) os ≡ w
-  bytes : All (λ (o : Op). Bytes (memoryOf o)) os
-  agrees : Agrees w d
-  check-1 : isFine (lentCheck (w .lent) (w .host)) ≡ true
-
-run-one : (os : List Op) (w : World) (o : Op) → run w (os ++ (o ∷ [])) ≡ step (run w os) o .world
-run-one [] w o = refl
-run-one (p ∷ os) w o = run-one os (step w p .world) o
-
-all-one : (os : List Op) (o : Op) → All (λ (o : Op). Bytes (memoryOf o)) os → Bytes (memoryOf o) → All (λ (o : Op). Bytes (memoryOf o)) (os ++ (o ∷ []))
-all-one [] o a b = (b, tt)
-all-one (p ∷ os) o a b = (a .0, all-one os o (a .1) b)
-
--- .. and after one more that is accepted
-one-more : (l : Lent) → mounted l 0 .code ≡ Fine → (os : List Op) (w : World) (d : Diary) → At l os w d → (o : Op) → Bytes (memoryOf o) → isRefused (step w o .said) ≡ false
-    → (w′ : World) → step w o .world ≡ w′ → At l (os ++ (o ∷ [])) w′ (noted w d o)
-one-more l fine os w d a o b e w′ q =
-    let here : run (mountedAs l 0) (os ++ (o ∷ [])) ≡ w′ = run-one os (mountedAs l 0) o ∙ ap (λ (v : World). step v o .world) (a .is) ∙ q in
-    let all = all-one os o (a .bytes) b in
-    record {
-      is = here;
-      bytes = all;
-      agrees = rw (q, e) at (agrees-step w o b d (a .agrees));
-      check-1 = subst (λ (v : World). isFine (lentCheck (v .lent) (v .host)) ≡ true) here (life-sane l 0 (os ++ (o ∷ [])) all fine);
-    }
+use Rattle.promises.proofs.AcceptedLaws.{settle-ok}
+use Rattle.promises.proofs.OutcomeHolds.{commits, committed-exactly}
+use Rattle.promises.proofs.ReturnHolds.{running-exactly, turn-passes}
+use Rattle.promises.proofs.AcceptedHolds.{begin-exactly, write-exactly, read-exactly, open-exactly, next-exactly, close-exactly, read-page, next-page}
+use Rattle.promises.proofs.AskedHolds.{asked-by}
+use Rattle.promises.proofs.ReadBackHolds.{write-reads-back}
+use Rattle.promises.proofs.ListHolds.{means-listed}
+use Rattle.promises.proofs.RunLaws.{no-bytes, long, At, one-more, emptyBox, mount-ok, mount-host, at-first}
+use Rattle.promises.proofs.TwoLaws.{long-memory, said-good, said-two, may-write, may-read, topic-is, write-args, read-args, open-args, next-args, close-arg, records-fine, topic-fine, filter-fine, out-fine, no-panic, payload-fine, raw, memory-bytes, topic-long, data-none, topic-read}
 
 one-listed : (p : List ℕ → Bool) (d : Bool) (k : ℕ) (r : List ℕ) → d ≡ false → k ≡ 9 → p r ≡ true → take k (only p (turn d (r ∷ []))) ≡ r ∷ []
 unfolding only turn
@@ -229,23 +75,14 @@ module _ (n c : ℕ) (n-least : 65536 ≤ n) (n-most : n ≤ 1048576) (c-least :
   abbrev l : Lent
   l = lentAs (zeros n) (zeros c) twoModules
 
-  mount-ok : mounted l 0 .code ≡ Fine
-  unfolding records upTo
-  mount-ok =
-      mounts l 0 .code
-      ∙ rw (long n, long c, le-leb 65536 n n-least, le-leb n 1048576 n-most, le-leb c 16777216 c-most, le-leb 0 c (omega arith), said-good)
-
-  mount-host : mounted l 0 .host ≡ freshHost (lengthsOf l) 0 1
-  unfolding mounted mountCheck sizesFine lengthsOf need mountedBy chain records upTo
-  mount-host = rw (long n, long c, le-leb 65536 n n-least, le-leb n 1048576 n-most, le-leb c 16777216 c-most, le-leb 0 c (omega arith), said-good)
+  fine : mounted l 0 .code ≡ Fine
+  fine = mount-ok n c twoModules n-least n-most c-most said-good
 
   abbrev w₀ : World
-  w₀ = record { host = freshHost (lengthsOf l) 0 1; lent = l }
+  w₀ = emptyBox n c twoModules
 
   at₀ : At l [] w₀ (firstPage l 0)
-  at₀ =
-      let here : run (mountedAs l 0) [] ≡ w₀ = rw mount-host in
-      record { is = here; bytes = tt; agrees = subst (λ (w : World). Agrees w (firstPage l 0)) here (mount-agrees l 0 mount-ok); check-1 = subst (λ (w : World). isFine (lentCheck (w .lent) (w .host)) ≡ true) here (life-sane l 0 [] tt mount-ok) }
+  at₀ = at-first n c twoModules n-least n-most c-most said-good
 
   -- ---- begin
 
@@ -272,7 +109,7 @@ module _ (n c : ℕ) (n-least : 65536 ≤ n) (n-most : n ≤ 1048576) (c-least :
   d₁ = record { kept = recordsOn (zeros c) 0; staged = []; units = 0 }
 
   at₁ : At l (take 1 theCalls) w₁ d₁
-  at₁ = one-more l mount-ok [] w₀ (firstPage l 0) at₀ (Begin hundred) no-bytes e₀ w₁ q₀
+  at₁ = one-more l fine [] w₀ (firstPage l 0) at₀ (Begin hundred) no-bytes e₀ w₁ q₀
 
   staging₁ : length (w₁ .lent .staging) ≡ n
   staging₁ = long (length (zeros n)) ∙ long n
@@ -346,7 +183,7 @@ module _ (n c : ℕ) (n-least : 65536 ≤ n) (n-most : n ≤ 1048576) (c-least :
   d₂ = record { kept = recordsOn (zeros c) 0; staged = event ∷ []; units = 0 + (1 + length event / 8) }
 
   at₂ : At l (take 2 theCalls) w₂ d₂
-  at₂ = rw no-panic at (one-more l mount-ok (take 1 theCalls) w₁ d₁ at₁ (Write memory 8) memory-bytes e₁ w₂ q₁)
+  at₂ = rw no-panic at (one-more l fine (take 1 theCalls) w₁ d₁ at₁ (Write memory 8) memory-bytes e₁ w₂ q₁)
 
   staged₂ : w₂ .host .weave .staged ≡ 136
   unfolding withWeave holding paid begun begunWeave
@@ -368,7 +205,7 @@ module _ (n c : ℕ) (n-least : 65536 ≤ n) (n-most : n ≤ 1048576) (c-least :
   w₃ = record { host = withWeave (w₂ .host) (nextTurn (w₂ .host .weave)); lent = w₂ .lent }
 
   at₃ : At l (take 3 theCalls) w₃ d₂
-  at₃ = rw s₂ at (one-more l mount-ok (take 2 theCalls) w₂ d₂ at₂ (Return (pos 0)) no-bytes (ap isRefused s₂) w₃ (turn-passes w₂ (pos 0) s₂))
+  at₃ = rw s₂ at (one-more l fine (take 2 theCalls) w₂ d₂ at₂ (Return (pos 0)) no-bytes (ap isRefused s₂) w₃ (turn-passes w₂ (pos 0) s₂))
 
   -- ---- module 2 reads it
 
@@ -415,7 +252,7 @@ module _ (n c : ℕ) (n-least : 65536 ≤ n) (n-most : n ≤ 1048576) (c-least :
   d₄ = record { kept = recordsOn (zeros c) 0; staged = event ∷ []; units = (0 + (1 + length event / 8)) + (1 + 136 / 8) }
 
   at₄ : At l (take 4 theCalls) w₄ d₄
-  at₄ = rw s₃ at (one-more l mount-ok (take 3 theCalls) w₃ d₂ at₃ (Read memory 48) memory-bytes e₃ w₄ q₃)
+  at₄ = rw s₃ at (one-more l fine (take 3 theCalls) w₃ d₂ at₃ (Read memory 48) memory-bytes e₃ w₄ q₃)
 
   -- ---- module 2 returns, and all is committed
 
@@ -449,7 +286,7 @@ module _ (n c : ℕ) (n-least : 65536 ≤ n) (n-most : n ≤ 1048576) (c-least :
   d₅ = record { kept = recordsOn (zeros c) 0 ++ (event ∷ []); staged = []; units = 0 }
 
   at₅ : At l (take 5 theCalls) w₅ d₅
-  at₅ = rw s₄ at (one-more l mount-ok (take 4 theCalls) w₄ d₄ at₄ (Return (pos 0)) no-bytes (ap isRefused s₄) w₅ q₄)
+  at₅ = rw s₄ at (one-more l fine (take 4 theCalls) w₄ d₄ at₄ (Return (pos 0)) no-bytes (ap isRefused s₄) w₅ q₄)
 
   -- ---- the next weave begins
 
@@ -473,7 +310,7 @@ module _ (n c : ℕ) (n-least : 65536 ≤ n) (n-most : n ≤ 1048576) (c-least :
   q₅ = rw f₅
 
   at₆ : At l (take 6 theCalls) w₆ d₅
-  at₆ = one-more l mount-ok (take 5 theCalls) w₅ d₅ at₅ (Begin hundred) no-bytes e₅ w₆ q₅
+  at₆ = one-more l fine (take 5 theCalls) w₅ d₅ at₅ (Begin hundred) no-bytes e₅ w₆ q₅
 
   -- ---- a cursor is opened
 
@@ -513,7 +350,7 @@ module _ (n c : ℕ) (n-least : 65536 ≤ n) (n-most : n ≤ 1048576) (c-least :
   d₇ = record { kept = recordsOn (zeros c) 0 ++ (event ∷ []); staged = []; units = 0 + 1 }
 
   at₇ : At l (take 7 theCalls) w₇ d₇
-  at₇ = one-more l mount-ok (take 6 theCalls) w₆ d₅ at₆ (Open memory 88) memory-bytes e₆ w₇ q₆
+  at₇ = one-more l fine (take 6 theCalls) w₆ d₅ at₆ (Open memory 88) memory-bytes e₆ w₇ q₆
 
   -- what is on the card
   card₇ : cardRecords w₇ ≡ event ∷ []
@@ -597,7 +434,7 @@ module _ (n c : ℕ) (n-least : 65536 ≤ n) (n-most : n ≤ 1048576) (c-least :
   d₈ = record { kept = recordsOn (zeros c) 0 ++ (event ∷ []); staged = []; units = (0 + 1) + (1 + 136 / 8) }
 
   at₈ : At l (take 8 theCalls) w₈ d₈
-  at₈ = rw s₇ at (one-more l mount-ok (take 7 theCalls) w₇ d₇ at₇ (Next memory 136) memory-bytes e₇ w₈ q₇)
+  at₈ = rw s₇ at (one-more l fine (take 7 theCalls) w₇ d₇ at₇ (Next memory 136) memory-bytes e₇ w₈ q₇)
 
   -- nothing is left
   rest₈ : listOf (mayRead twoModules 1) cursor₈ (event ∷ []) ≡ []
@@ -652,7 +489,7 @@ module _ (n c : ℕ) (n-least : 65536 ≤ n) (n-most : n ≤ 1048576) (c-least :
   d₉ = record { kept = recordsOn (zeros c) 0 ++ (event ∷ []); staged = []; units = ((0 + 1) + (1 + 136 / 8)) + (1 + 0 / 8) }
 
   at₉ : At l (take 9 theCalls) w₉ d₉
-  at₉ = rw s₈ at (one-more l mount-ok (take 8 theCalls) w₈ d₈ at₈ (Next memory 136) memory-bytes e₈ w₉ q₈)
+  at₉ = rw s₈ at (one-more l fine (take 8 theCalls) w₈ d₈ at₈ (Next memory 136) memory-bytes e₈ w₉ q₈)
 
   -- ---- the cursor is closed
 
@@ -684,7 +521,7 @@ module _ (n c : ℕ) (n-least : 65536 ≤ n) (n-most : n ≤ 1048576) (c-least :
   q₉ = rw (f₉, close-arg)
 
   check₁₀ : isFine (lentCheck (w₁₀ .lent) (w₁₀ .host)) ≡ true
-  check₁₀ = one-more l mount-ok (take 9 theCalls) w₉ d₉ at₉ (Close memory 160) memory-bytes e₉ w₁₀ q₉ .check-1
+  check₁₀ = one-more l fine (take 9 theCalls) w₉ d₉ at₉ (Close memory 160) memory-bytes e₉ w₁₀ q₉ .check-1
 
   -- ---- and module 1 returns
 
@@ -697,4 +534,4 @@ module _ (n c : ℕ) (n-least : 65536 ≤ n) (n-most : n ≤ 1048576) (c-least :
   -- THE PROMISE
   pub all-said : saidOver (mountedAs l 0) theCalls ≡ theAnswers
   all-said =
-      rw (mount-host, s₀, q₀, s₁, q₁, s₂, turn-passes w₂ (pos 0) s₂, s₃, q₃, s₄, q₄, s₅, q₅, s₆, q₆, s₇, q₇, s₈, q₈, s₉, q₉, s₁₀)
+      rw (mount-host n c twoModules n-least n-most c-most said-good, s₀, q₀, s₁, q₁, s₂, turn-passes w₂ (pos 0) s₂, s₃, q₃, s₄, q₄, s₅, q₅, s₆, q₆, s₇, q₇, s₈, q₈, s₉, q₉, s₁₀)

@@ -9,13 +9,11 @@ use borrow.Author.Tests.{eq-eqb}
 use lib.Dec.{eqb}
 use lib.ListN.{length, length-replicate}
 use Rattle.le.specs.Le.{Bytes, leAt}
-use Rattle.le.proofs.LeLaws.{leAt-lt}
-use Rattle.card.specs.Pick.{All}
 use Rattle.le.specs.Splice.{part, splice, zeros}
+use Rattle.le.proofs.LeLaws.{leAt-lt}
 use Rattle.le.proofs.SpliceLaws.{length-part, part-of-splice, length-splice, part-whole}
-use Rattle.weave.specs.declared.Weave.{Weave}
-use Rattle.weave.specs.Moves.{openedWith, movedTo, closedAt}
-use Rattle.weave.specs.States.{freshWeave, begunWeave, paid, holding, tabled, spoilt, turned}
+use Rattle.card.specs.Pick.{All}
+use Rattle.weave.specs.States.{freshWeave, begunWeave}
 use Rattle.takes.specs.Begun.{argAt, traceOf, begun}
 use Rattle.host.specs.Hosts.{Lent, withWeave, turnedAway, settle}
 use Rattle.host.specs.Begin.{beginCheck, beginAnswer, beginStaging}
@@ -24,9 +22,9 @@ use Rattle.promises.specs.Box.{World, Op, Begin, step, isRefused, argsOf
 use Rattle.promises.specs.Outcome.{Begun, SameWeave}
 use Rattle.promises.proofs.AcceptedLaws.{settle-ok}
 use Rattle.promises.proofs.AcceptedHolds.{begin-exactly}
-use Rattle.promises.proofs.MoveLaws.{Change, Marks, Stages, Writes, Pays, Opens, Hands, Closes, Panics, Turns, Move, Rests, Begins, GoesOn, Commits, Discards, weaveAfter, after}
+use Rattle.promises.proofs.MountHolds.{mount-fresh}
+use Rattle.promises.proofs.MoveLaws.{Move, Rests, Begins, GoesOn, Commits, Discards, after}
 use Rattle.promises.proofs.MovesHold.{moved}
-use Rattle.promises.proofs.MountLaws.{mount-fresh}
 
 -- ---- begin
 
@@ -53,30 +51,11 @@ begin-sets w args e =
 
 -- ---- while it runs
 
--- of a weave, what stays
-pub record Keeps (is was : Weave) : Type 0 where
-  pub running : is .running ≡ was .running
-  pub resmax : is .resmax ≡ was .resmax
-  pub time : is .time ≡ was .time
-  pub trace : is .trace ≡ was .trace
-
-pub keeps : (w : World) (o : Op) (c : Change w o) → Keeps (weaveAfter w o c) (w .host .weave)
-unfolding spoilt holding paid tabled turned openedWith movedTo closedAt
-keeps w o Marks = record { running = refl; resmax = refl; time = refl; trace = refl }
-keeps w o (Stages r n g) = record { running = refl; resmax = refl; time = refl; trace = refl }
-keeps w o (Writes r n b g) = record { running = refl; resmax = refl; time = refl; trace = refl }
-keeps w o (Pays charge b) = record { running = refl; resmax = refl; time = refl; trace = refl }
-keeps w o (Opens s e f b) = record { running = refl; resmax = refl; time = refl; trace = refl }
-keeps w o (Hands k cap f b) = record { running = refl; resmax = refl; time = refl; trace = refl }
-keeps w o (Closes k f b) = record { running = refl; resmax = refl; time = refl; trace = refl }
-keeps w o Panics = record { running = refl; resmax = refl; time = refl; trace = refl }
-keeps w o (Turns i low) = record { running = refl; resmax = refl; time = refl; trace = refl }
-
 stays : (w : World) (o : Op) (m : Move w o) → w .host .weave .running ≡ true → after w o m .host .weave .running ≡ true → SameWeave w (after w o m)
 unfolding withWeave committed freshWeave
 stays w o Rests r q = record { resmax = refl; time = refl; trace = refl }
 stays w o (Begins args i b) r q = absurd (true≢false (sym r ∙ i))
-stays w o (GoesOn e c) r q = let k = keeps w o c in record { resmax = k .resmax; time = k .time; trace = k .trace }
+stays w o (GoesOn e c) r q = record { resmax = refl; time = refl; trace = refl }
 stays w o (Commits f s code c) r q = absurd (true≢false (sym q))
 stays w o (Discards f) r q = absurd (true≢false (sym q))
 
@@ -93,7 +72,7 @@ idle-move : (w : World) (o : Op) (m : Move w o) → Idle w → Idle (after w o m
 unfolding withWeave begun begunWeave committed
 idle-move w o Rests i = i
 idle-move w o (Begins args e b) i = λ q. absurd (true≢false q)
-idle-move w o (GoesOn r c) i = λ q. absurd (true≢false (sym r ∙ sym (keeps w o c .running) ∙ q))
+idle-move w o (GoesOn r c) i = λ q. absurd (true≢false (sym r ∙ q))
 idle-move w o (Commits f s code c) i = λ q. refl
 idle-move w o (Discards f) i = λ q. refl
 
@@ -115,7 +94,7 @@ timed w o b (Begins args i f) t = go (eqb (length args) 128)
     go : (k : Bool) → cond k (leAt 8 args 48) 0 < 256 ^ 8
     go true = leAt-lt 8 args 48 (f b)
     go false = omega arith
-timed w o b (GoesOn e c) t = rw (keeps w o c .time) t
+timed w o b (GoesOn e c) t = t
 timed w o b (Commits f s code c) t = omega arith
 timed w o b (Discards f) t = omega arith
 

@@ -8,7 +8,7 @@ use lib.ListN.{length}
 use Rattle.text.specs.Topic.{goodTopic}
 use Rattle.text.specs.Flags.{goodFlags}
 use Rattle.value.specs.declared.Fault.the-variants.{Fine as NoFault}
-use Rattle.manifest.specs.Saying.{mayRead, mayWrite}
+use Rattle.manifest.specs.Saying.{isGood, modulesSaid, manifestOf, mayRead, mayWrite}
 use Rattle.card.specs.Listing.{pageOf}
 use Rattle.card.specs.Walk.{chainTo}
 use Rattle.weave.specs.declared.Spoiled.the-variants.{Not}
@@ -24,6 +24,24 @@ use Rattle.writes.specs.Stage.{roomFine, isPanic, writtenTopic, dataLen, writeC
 use Rattle.reads.specs.Reading.{readTopic, readList}
 use Rattle.reads.specs.Paging.{nextList}
 use Rattle.promises.specs.Box.{cardChained, stagedPart}
+
+-- check 1, but for the memory
+pub record Lawful (l : Lent) (h : Host) : Type 0 where
+  -- "other lent lengths that differ from those at mount"
+  pub staging-long : length (l .staging) ≡ h .lengths .staging
+  pub card-long : length (l .card) ≡ h .lengths .card
+  pub text-long : length (l .text) ≡ h .lengths .«manifest»
+  -- "a bad manifest"
+  pub good : isGood (manifestOf (l .text)) ≡ true
+  -- "a used length above the card's, staged bytes above the staging's"
+  pub used : h .used ≤ length (l .card)
+  pub staged : h .weave .staged ≤ length (l .staging)
+  -- "a next number .. outside 1 to 2^63, alone or with the staged events added"
+  pub least : 1 ≤ h .next .0
+  pub numbers : h .next .0 + h .weave .count ≤ 2 ^ 63
+  -- "in a weave, a turn outside 1 to the module count"
+  pub turn-least : h .weave .running ≡ true → 1 ≤ h .weave .turn
+  pub turn-most : h .weave .running ≡ true → h .weave .turn ≤ modulesSaid (manifestOf (l .text))
 
 pub record BeginMay (l : Lent) (h : Host) (args : List ℕ) : Type 0 where
   pub check-1 : isFine (lentCheck l h) ≡ true

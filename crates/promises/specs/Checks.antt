@@ -187,3 +187,17 @@ answers w (Close m a) = 0
 -- a return answers its fate, and a look-up the part that it shows
 answers w (Return code) = 0
 answers w (LookUp id) = 0
+
+-- ---- when ingress is too late: it comes "only before the first accepted module call or return of the weave"
+
+-- whether it is after an accepted call
+abbrev pub tooLate : World → Op → Bool
+tooLate w (Begin args) = false
+tooLate w (Ingress topic payload) = w .host .weave .late
+tooLate w (Write m a) = true
+tooLate w (Read m a) = true
+tooLate w (Open m a) = true
+tooLate w (Next m a) = true
+tooLate w (Close m a) = true
+tooLate w (Return code) = true
+tooLate w (LookUp id) = w .host .weave .late

@@ -22,8 +22,8 @@ use Rattle.host.specs.declared.Host.{Host}
 use Rattle.host.specs.declared.Fate.the-variants.{Refused, Discarded, Running, Committed}
 use Rattle.host.specs.Hosts.{Lent, lentCheck}
 use Rattle.promises.specs.Box.{World, stagedPart, Op, Return, isRefused, saidEvents, saidBytes, Said, Answered, Ended, Part, Step, step, saidNumber}
-use Rattle.promises.specs.Checks.{failing, checksOf}
 use Rattle.promises.specs.Refusal.{OnlyThere}
+use Rattle.promises.specs.Checks.{failing, checksOf}
 
 -- 01's conditions, in the order in which it gives them
 pub record Conditions (l : Lent) (h : Host) (code : ℤ) : Type 0 where
