@@ -1,8 +1,8 @@
--- What crossing needs: a code's number fits 64 bits, and four rooms are four slots.
+-- What crossing needs: a mark comes back, and four rooms are four slots.
 -- Assumes nothing.
 use mathlib.Core.Path.{_≡_, refl, ap, _∙_}
 use native.Mathlib.Omega.{arith}
-use mathlib.Core.Bool.{Bool, true, false}
+use mathlib.Core.Bool.{false}
 use mathlib.Core.List.{List, [], _∷_, map}
 use borrow.Author.Tests.{ne-eqb}
 use lib.IntN.{ℤ, pos, negsuc}
@@ -10,39 +10,23 @@ use lib.ListN.{length, getD}
 use mir.Syntax.{w64}
 use mir.Val.{toZ, ofZ}
 use Rattle.weave.specs.declared.Code.{Code}
-use Rattle.weave.specs.declared.Code.the-variants.{Fine, Denied, NotNow, Unsound, NoRoom, Bad, Budget, BadValue}
 use Rattle.weave.specs.declared.Mark.{Mark}
 use Rattle.weave.specs.declared.Spoiled.the-variants.{Panicked}
 use Rattle.weave.specs.declared.Slot.{Slot}
 use Rattle.loafheron.specs.declared.Room.{Room}
-use Rattle.weave.specs.Codes.{isFine, need, number, spoiledCode}
+use Rattle.weave.specs.Codes.{number, spoiledCode}
+use Rattle.host.proofs.EndingLaws.{number-back}
 use Rattle.loafheron.specs.Crossing.{markOf, markSaid}
-
-pub number-fits : (c : Code) → toZ w64 (ofZ w64 (number c)) ≡ number c
-number-fits Fine = refl
-number-fits Denied = refl
-number-fits NotNow = refl
-number-fits Unsound = refl
-number-fits NoRoom = refl
-number-fits Bad = refl
-number-fits Budget = refl
-number-fits BadValue = refl
 
 -- a number that is some code's crosses as it is
 pub crosses : (z : ℤ) (c : Code) → z ≡ number c → toZ w64 (ofZ w64 z) ≡ number c
-crosses z c e = ap (λ (x : ℤ). toZ w64 (ofZ w64 x)) e ∙ number-fits c
+crosses z c e = ap (λ (x : ℤ). toZ w64 (ofZ w64 x)) e ∙ number-back c
 
 -- what is neither 0 nor -6 says panic
 pub mark-other : (z : ℤ) → (z ≡ pos 0 → ⊥) → (z ≡ negsuc 5 → ⊥) → record { 0 = Panicked } ≡ markSaid z
 unfolding markSaid
 mark-other (pos n) z m = rw (ne-eqb n 0 (λ e. z (ap pos e)))
 mark-other (negsuc n) z m = rw (ne-eqb n 5 (λ e. m (ap negsuc e)))
-
--- a check is fine where its test holds
-pub need-fine : (t : Bool) → isFine (need t Bad) ≡ t
-unfolding need
-need-fine true = refl
-need-fine false = refl
 
 -- so does a mark's
 pub mark-crosses : (z : ℤ) (m : Mark) → z ≡ markOf m → toZ w64 (ofZ w64 z) ≡ markOf m

@@ -27,7 +27,7 @@ use Rattle.manifest.specs.Saying.{isGood, modulesSaid, manifestOf, goodHead, mo
 use Rattle.weave.specs.Args.{recordFine, fieldAt, writeArgs, readArgs, openArgs, nextArgs, closeHandle, topicFine, filterFine, outFine, payloadFine}
 use Rattle.takes.specs.Payloads.{payloadChecked}
 use Rattle.writes.specs.Stage.{isPanic, writtenTopic, dataLen}
-use Rattle.promises.specs.TwoWeaves.{twoModules, hundred, memory}
+use Rattle.promises.specs.TwoWeaves.{twoModules, memory}
 
 pub long-memory : length memory ≡ 312
 unfolding memory leBytes
@@ -131,6 +131,3 @@ data-none = ap (λ (k : Checked). k .len) raw
 
 pub topic-read : writtenTopic memory 8 ≡ 116 ∷ []
 topic-read = rw (write-args, topic-is)
-
-pub long-hundred : length hundred ≡ 128
-long-hundred = refl
