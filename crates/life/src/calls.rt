@@ -7,7 +7,7 @@ use crate::lay::word_at;
 use crate::pages;
 use crate::say;
 use crate::words;
-use crate::words::number;
+use cases::number;
 use host::Answer;
 use host::Fate;
 use host::Host;
@@ -84,8 +84,8 @@ pub(crate) fn mount(l: &[u8], staging: &[u8], card: &[u8], text: &[u8]) -> Host 
     let m = mounts::mount::mount(staging, card, text, number(l, 1) as usize);
     let c = m.code;
     say::answer(c, 0);
-    say::word(b" at");
-    say::number(m.at as u64);
+    saying::word(b" at");
+    saying::number(m.at as u64);
     m.host
 }
 
@@ -101,7 +101,7 @@ fn begin_args(l: &[u8]) -> [u8; 136]
 
 pub(crate) fn begin(h: Host, l: &[u8], staging: &mut [u8], card: &[u8], text: &[u8]) -> Host {
     let args = begin_args(l);
-    let size = words::number_or(l, 3, 128) as usize;
+    let size = cases::number_or(l, 3, 128) as usize;
     let a = h.begin(staging, card, text, le::front(&args, size));
     let c = a.code;
     say::answer(c, a.value);
@@ -112,17 +112,17 @@ fn say_fate(f: Fate) {
     match f {
         Fate::Refused(c) => say::answer(c, 0),
         Fate::Discarded(c) => {
-            say::word(b" discarded");
+            saying::word(b" discarded");
             say::answer(c, 0);
         }
-        Fate::Running => say::word(b" running"),
+        Fate::Running => saying::word(b" running"),
         Fate::Committed {
             events: e,
             bytes: b,
         } => {
-            say::word(b" committed");
-            say::number(e);
-            say::number(b as u64);
+            saying::word(b" committed");
+            saying::number(e);
+            saying::number(b as u64);
         }
     }
 }
@@ -140,12 +140,12 @@ pub(crate) fn look_up<'a>(h: Host, l: &[u8], staging: &'a [u8], card: &'a [u8], 
     let id = EventId(number(l, 1));
     let r = mounts::look::look_up(h, staging, card, text, id);
     if r.len() == 0 {
-        say::word(b" none");
+        saying::word(b" none");
         return;
     }
-    say::number(r.len() as u64);
-    say::word(b" bytes, id");
-    say::number(word_at(r, 8));
-    say::word(b", sum");
-    say::number(words::sum(r));
+    saying::number(r.len() as u64);
+    saying::word(b" bytes, id");
+    saying::number(word_at(r, 8));
+    saying::word(b", sum");
+    saying::number(words::sum(r));
 }

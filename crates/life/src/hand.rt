@@ -1,7 +1,9 @@
 // What is done by hand to what is lent: buffers and manifest made, lent lengths, single bytes and texts.
+use crate::Buffer;
+use crate::Large;
 use crate::lay;
-use crate::words::number;
-use crate::words::which;
+use cases::number;
+use cases::which;
 use text::lines::field;
 
 // `piece` behind the first `at` bytes, where it fits.
@@ -28,7 +30,13 @@ fn put_byte(s: &mut [u8], at: usize, b: u64) {
 }
 
 // poke buffer offset byte
-fn poke(l: &[u8], memory: &mut [u8], staging: &mut [u8], card: &mut [u8], manifest: &mut [u8]) {
+fn poke(
+    l: &[u8],
+    memory: &mut Large,
+    staging: &mut Large,
+    card: &mut Buffer,
+    manifest: &mut Buffer,
+) {
     let at = number(l, 2) as usize;
     let b = number(l, 3);
     match which(b"memory\tstaging\tcard\tmanifest", field(l, 1)) {
@@ -42,10 +50,10 @@ fn poke(l: &[u8], memory: &mut [u8], staging: &mut [u8], card: &mut [u8], manife
 // 0 poke, 1 box, 2 word, 3 text, 4 lay; and where a line names a call, its arguments are laid.
 pub(crate) fn bytes(
     l: &[u8],
-    memory: &mut [u8],
-    staging: &mut [u8],
-    card: &mut [u8],
-    manifest: &mut [u8],
+    memory: &mut Large,
+    staging: &mut Large,
+    card: &mut Buffer,
+    manifest: &mut Buffer,
 ) {
     match which(b"poke\tbox\tword\ttext\tlay", field(l, 0)) {
         0 => poke(l, memory, staging, card, manifest),
@@ -64,7 +72,7 @@ pub(crate) fn bytes(
 }
 
 // A line of the manifest, behind the first n bytes; how long it then is.
-fn told(n: usize, l: &[u8], manifest: &mut [u8]) -> usize {
+fn told(n: usize, l: &[u8], manifest: &mut Buffer) -> usize {
     let end = add(manifest, n, l);
     add(manifest, end, b"\n")
 }
@@ -80,7 +88,7 @@ fn lend(was: [usize; 4], buffer: &[u8], n: usize) -> [usize; 4] {
 }
 
 // 0 box, 1 lend, 2 modules, 3 grant: how much of memory, staging, card and manifest is lent from now on.
-pub(crate) fn lengths(was: [usize; 4], l: &[u8], manifest: &mut [u8]) -> [usize; 4] {
+pub(crate) fn lengths(was: [usize; 4], l: &[u8], manifest: &mut Buffer) -> [usize; 4] {
     let n = number(l, 2) as usize;
     match which(b"box\tlend\tmodules\tgrant", field(l, 0)) {
         0 => [number(l, 3) as usize, number(l, 1) as usize, n, was[3]],

@@ -1,7 +1,7 @@
 // The arguments of a call, laid into memory: the record at 8, the topic at 64, the payload or the value at 2176, a value's text at 2208.
-use crate::words::number;
-use crate::words::number_or;
-use crate::words::which;
+use cases::number;
+use cases::number_or;
+use cases::which;
 use text::compare::same;
 use text::lines::field;
 

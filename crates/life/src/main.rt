@@ -13,8 +13,13 @@ mod words;
 ghost use mathlib.Core.Path.{_≡_};
 ghost use lib.ListN.{length};
 
+// A card's, and a manifest's.
+type Buffer = [u8; 65536];
+
 // More than a memory or a staging buffer may have.
-fn large() -> [u8; 1048584]
+type Large = [u8; 1048584];
+
+fn large() -> Large
     ensures { λ r. ⌜ 1048584 ≡ length r ⌝ }
 {
     [0; 1048584]

@@ -2,7 +2,7 @@
 ghost use Prim.Native.Nat.{_<_};
 use crate::lay::word_at;
 use crate::say;
-use crate::say::word;
+use saying::word;
 
 fn half(s: &[u8], at: usize) -> usize
     ensures { λ r. ⌜ r < 4294967296 ⌝ }
@@ -15,16 +15,16 @@ fn value(memory: &[u8], v: &[u8]) {
     let t = half(v, 0);
     let n = word_at(v, 8);
     word(b" type");
-    say::number(t as u64);
+    saying::number(t as u64);
     word(b" flags");
-    say::number(word_at(v, 0) / 4294967296);
+    saying::number(word_at(v, 0) / 4294967296);
     if (t == 5) | (t == 9) {
         word(b" ptr");
-        say::number(n);
+        saying::number(n);
         say::text(le::cut(memory, n as usize, word_at(v, 16) as usize));
         return;
     }
-    say::number(n);
+    saying::number(n);
 }
 
 fn payload(memory: &[u8], flags: usize, p: &[u8]) {
@@ -37,13 +37,13 @@ fn payload(memory: &[u8], flags: usize, p: &[u8]) {
 
 fn header(r: &[u8]) {
     word(b"\n  event");
-    say::number(word_at(r, 8));
+    saying::number(word_at(r, 8));
     word(b" flags");
-    say::number(half(r, 4) as u64);
+    saying::number(half(r, 4) as u64);
     word(b" time");
-    say::number(word_at(r, 16));
+    saying::number(word_at(r, 16));
     word(b" agent");
-    say::number(word_at(r, 32));
+    saying::number(word_at(r, 32));
 }
 
 // The record that these bytes of memory begin with; how long it is.

@@ -1,17 +1,9 @@
 // What a line is made of.
 use libc::STDOUT_FILENO;
+use saying::number;
+use saying::word;
 use value::scalar::Scalar;
 use weave::Code;
-
-pub(crate) fn word(s: &[u8]) {
-    io::write_all(STDOUT_FILENO, s);
-}
-
-// A number, behind a blank.
-pub(crate) fn number(n: u64) {
-    word(b" ");
-    io::print_decimal(STDOUT_FILENO, n);
-}
 
 // A text, and how long it is where it is cut.
 pub(crate) fn text(s: &[u8]) {

@@ -1,15 +1,17 @@
 // The steps. A line that begins with no step's word is a heading.
+use crate::Buffer;
+use crate::Large;
 use crate::calls;
 use crate::hand;
 use crate::lay;
-use crate::say::word;
 use crate::show;
 use crate::state;
 use crate::words::lent;
-use crate::words::number;
-use crate::words::which;
+use cases::number;
+use cases::which;
 use host::Host;
 use record::EventId;
+use saying::word;
 use text::lines::field;
 use text::lines::line;
 use weave::Lengths;
@@ -143,10 +145,10 @@ fn step(
 fn by_hand(
     is: [usize; 4],
     l: &[u8],
-    memory: &mut [u8],
-    staging: &mut [u8],
-    card: &mut [u8],
-    manifest: &mut [u8],
+    memory: &mut Large,
+    staging: &mut Large,
+    card: &mut Buffer,
+    manifest: &mut Buffer,
 ) -> [usize; 4] {
     word(l);
     hand::bytes(l, memory, staging, card, manifest);
@@ -162,10 +164,10 @@ struct Life {
 fn lived(
     was: Life,
     l: &[u8],
-    memory: &mut [u8],
-    staging: &mut [u8],
-    card: &mut [u8],
-    manifest: &mut [u8],
+    memory: &mut Large,
+    staging: &mut Large,
+    card: &mut Buffer,
+    manifest: &mut Buffer,
 ) -> Life {
     let before = was.lent;
     let lent = by_hand(before, l, memory, staging, card, manifest);
@@ -175,10 +177,10 @@ fn lived(
 
 pub(crate) fn each(
     text: &[u8],
-    memory: &mut [u8],
-    staging: &mut [u8],
-    card: &mut [u8],
-    manifest: &mut [u8],
+    memory: &mut Large,
+    staging: &mut Large,
+    card: &mut Buffer,
+    manifest: &mut Buffer,
 ) {
     let host = none();
     let lent = [0usize; 4];

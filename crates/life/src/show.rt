@@ -1,8 +1,8 @@
 // What has changed in the host's state and in the buffers.
 use crate::say;
-use crate::say::word;
 use crate::words::sum;
 use host::Host;
+use saying::word;
 use text::lines::field;
 use weave::Slot;
 use weave::Weave;
@@ -73,7 +73,7 @@ pub(crate) fn changed(names: &[u8], was: &[u64], is: &[u64]) {
         if was[i] != is[i] {
             word(b"  ");
             word(field(names, i));
-            say::number(is[i]);
+            saying::number(is[i]);
         }
         i += 1;
     }

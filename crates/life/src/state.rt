@@ -1,6 +1,6 @@
 // Fields of the state, set by hand.
-use crate::words::number;
-use crate::words::which;
+use cases::number;
+use cases::which;
 use host::Host;
 use record::EventId;
 use text::lines::field;

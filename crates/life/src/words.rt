@@ -1,39 +1,11 @@
 // A step's words and numbers, and sums of bytes.
 ghost use Prim.Native.Nat.{_<_};
 ghost use Rattle.io.specs.Counts.{Counts};
+use cases::number;
 use text::compare::same;
-use text::decimal::Number;
-use text::decimal::read_number;
 use text::lines::field;
-use text::lines::field_count;
 use value::Value;
 use value::scalar::Scalar;
-
-// Which of a table's words this is, counted from 0; how many they are where it is none of them.
-pub(crate) fn which(table: &[u8], w: &[u8]) -> usize {
-    let n = field_count(table);
-    let mut i = 0;
-    while i < n {
-        if same(field(table, i), w) {
-            return i;
-        }
-        i += 1;
-    }
-    n
-}
-
-// The number that field k is; another where it is none.
-pub(crate) fn number_or(l: &[u8], k: usize, other: u64) -> u64 {
-    let n = read_number(field(l, k));
-    match n {
-        Number::Is(v) => v,
-        Number::Not => other,
-    }
-}
-
-pub(crate) fn number(l: &[u8], k: usize) -> u64 {
-    number_or(l, k, 0)
-}
 
 // The signed number of 64 bits.
 fn signed(bits: u64) -> i64 {

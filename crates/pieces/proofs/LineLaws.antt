@@ -2,23 +2,19 @@
 -- Assumes nothing.
 use mathlib.Core.Path.{_≡_, refl, ap, sym, _∙_}
 use mathlib.Core.Bool.{Bool, true, false, cond}
-use mathlib.Core.List.{List, [], _∷_, _++_}
-use Prim.Native.Nat.{ℕ, zero, suc, _+_, _-_, _≤_, _<_}
+use mathlib.Core.List.{List, [], _∷_}
+use Prim.Native.Nat.{ℕ, zero, suc, _≤_, _<_}
 use native.Mathlib.Nat.{not-suc-le-zero}
 use native.Mathlib.Omega.{arith}
 use lib.Dec.{ltb}
-use lib.ListN.{length, take, drop, length-take, length-drop, drop-of-length-le}
-use lib.Seq.{take-all}
+use lib.ListN.{length, drop, length-drop, drop-of-length-le}
 use borrow.Author.Tests.{le-ltb, lt-ltb, ltb-true, ltb-false}
 use Rattle.le.proofs.TestLaws.{Tested, tested, passes, fails}
 use Rattle.text.specs.Lines.{before, lines}
-use Rattle.text.proofs.LinesLaws.{before-short, lines-step}
-use Rattle.card.specs.Records.{joined}
-use Rattle.session.specs.Sessions.{answered, isOver}
-use Rattle.session.specs.declared.Phase.{Phase}
-use Rattle.session.specs.declared.Phase.the-variants.{Listing, Overfull, Playing, Over}
-use Rattle.pieces.specs.Feeding.{Stand, standAs, Heard, quiet, followed, holding, isName, titled, spoken, closed, fed, fedAll, over, lastLine, ended, heard, lineByLine, oneLine}
-use Rattle.pieces.proofs.PieceLaws.{followed-assoc, pieces-joined, fed-line}
+use Rattle.text.proofs.LinesLaws.{lines-step}
+use Rattle.session.specs.Sessions.{answered}
+use Rattle.pieces.specs.Feeding.{Stand, Heard, quiet, followed, holding, isName, titled, spoken, closed, fed, over, lastLine, ended, heard, lineByLine, oneLine}
+use Rattle.pieces.proofs.PieceLaws.{followed-assoc, fed-line}
 
 -- behind a line nothing is held
 closed-held : (s : Stand) → closed s .stand .held ≡ []

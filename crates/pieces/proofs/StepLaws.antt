@@ -6,17 +6,14 @@ use mathlib.Core.List.{List, [], _∷_, _++_}
 use Prim.Native.Nat.{ℕ, suc, _+_, _-_, _≤_, _<_}
 use native.Mathlib.Nat.{min-le-right}
 use native.Mathlib.Omega.{arith}
-use lib.Dec.{leb, ltb, eqb}
+use lib.Dec.{leb, ltb}
 use lib.ListN.{length, take, drop, length-append, length-take, length-drop, take-append-drop, drop-of-length-le}
 use lib.Seq.{take-all, length-take-le, take-append-seam, drop-drop}
-use borrow.Author.Tests.{le-leb, lt-leb, le-ltb, lt-ltb, leb-true, leb-false, ltb-true, ltb-false}
+use borrow.Author.Tests.{le-ltb, lt-ltb, leb-true, leb-false, ltb-true, ltb-false}
 use Rattle.le.specs.Splice.{splice}
-use Rattle.le.proofs.SpliceLaws.{length-splice, take-splice-end}
+use Rattle.le.proofs.SpliceLaws.{take-splice-end}
 use Rattle.le.proofs.TestLaws.{Tested, tested, passes, fails, and-left, and-right}
-use Rattle.text.specs.Compare.{prefixOf}
 use Rattle.text.specs.Lines.{before}
-use Rattle.text.specs.Decimal.{decimal}
-use Rattle.text.proofs.LinesLaws.{before-short}
 use Rattle.script.specs.Words.{badWord}
 use Rattle.script.specs.Saying.{Put, behind, printed, answerText, saidBad}
 use Rattle.script.specs.Gathering.{more, heldWith, gathered}
@@ -28,7 +25,7 @@ use Rattle.session.specs.declared.Phase.the-variants.{Listing, Overfull, Playin
 use Rattle.session.specs.declared.Session.{Session}
 use Rattle.session.specs.Sessions.{Buffers, Answers, answered, counted, freshSession, endIn}
 use Rattle.pieces.specs.declared.Play.{Play}
-use Rattle.pieces.specs.Feeding.{Stand, standAs, standOf, Heard, quiet, Hears, holding, nameMark, isName, endSaid, titled, spoken, closed, over, lastLine, ended, fed, oneLine}
+use Rattle.pieces.specs.Feeding.{Stand, standAs, standOf, Heard, Hears, holding, isName, endSaid, titled, spoken, closed, over, lastLine, ended, fed, oneLine}
 use Rattle.pieces.proofs.PieceLaws.{fed-line}
 
 -- ---- the end of a session

