@@ -9,10 +9,10 @@ use Rattle.weave.specs.declared.Spoiled.the-variants.{Not, Overspent, Panicked}
 use Rattle.weave.specs.declared.Slot.{Slot}
 use Rattle.weave.specs.Codes.{number, reasonFor}
 use Rattle.host.specs.declared.Host.{Host}
-use Rattle.loafheron.specs.Crossing.{flag, said, markOf, markSaid, roomOf, slotSaid, roomsOf, slotsSaid, stateOf, weaveSaid, hostSaid}
+use Rattle.loafheron.specs.Crossing.{flag, flagSaid, markOf, markSaid, roomOf, slotSaid, roomsOf, slotsSaid, stateOf, weaveSaid, hostSaid}
 
-pub flag-back : (t : Bool) → said (flag t) ≡ t
-unfolding said flag
+pub flag-back : (t : Bool) → flagSaid (flag t) ≡ t
+unfolding flagSaid flag
 flag-back true = refl
 flag-back false = refl
 

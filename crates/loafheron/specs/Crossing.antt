@@ -18,8 +18,8 @@ use Rattle.loafheron.specs.declared.State.{State}
 unfoldable pub flag : Bool → ℕ
 flag t = cond t 1 0
 
-unfoldable pub said : ℕ → Bool
-said n = not (eqb n 0)
+unfoldable pub flagSaid : ℕ → Bool
+flagSaid n = not (eqb n 0)
 
 -- "its reason, -6 or -1"; 0 in a weave that is not spoiled
 unfoldable pub markOf : Mark → ℤ
@@ -52,7 +52,7 @@ slotSaid r =
         from = record { 0 = r .from };
         to = record { 0 = r .to };
         limit = r .limit;
-        desc = said (r .desc);
+        desc = flagSaid (r .desc);
       };
     }
 
@@ -89,10 +89,10 @@ stateOf h =
 unfoldable pub weaveSaid : State → Weave
 weaveSaid s =
     record {
-      running = said (s .running);
+      running = flagSaid (s .running);
       spoiled = markSaid (s .spoiled);
       turn = s .turn;
-      late = said (s .late);
+      late = flagSaid (s .late);
       staged = s .staged;
       count = s .count;
       units = s .units;
@@ -109,6 +109,6 @@ hostSaid s =
       lengths = record { staging = s .staginglen; card = s .cardlen; «manifest» = s .manifestlen };
       used = s .used;
       next = record { 0 = s .next };
-      faulted = said (s .faulted);
+      faulted = flagSaid (s .faulted);
       weave = weaveSaid s;
     }

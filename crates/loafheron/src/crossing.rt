@@ -1,6 +1,6 @@
 // How the state crosses: each field as a number.
 ghost use mathlib.Core.Path.{_≡_};
-ghost use Rattle.loafheron.specs.Crossing.{flag, said, markOf, markSaid, roomOf, slotSaid, roomsOf, slotsSaid};
+ghost use Rattle.loafheron.specs.Crossing.{flag, flagSaid, markOf, markSaid, roomOf, slotSaid, roomsOf, slotsSaid};
 use crate::Room;
 use card::Cursor;
 use record::EventId;
@@ -14,8 +14,8 @@ pub(crate) fn flag(t: bool) -> u64
     if t { 1 } else { 0 }
 }
 
-pub(crate) fn said(n: u64) -> bool
-    ensures { λ r. ⌜ r ≡ said n ⌝ }
+pub(crate) fn flag_said(n: u64) -> bool
+    ensures { λ r. ⌜ r ≡ flagSaid n ⌝ }
 {
     n != 0
 }
@@ -61,7 +61,7 @@ fn room_of(s: Slot) -> Room
 fn slot_said(r: Room) -> Slot
     ensures { λ s. ⌜ s ≡ slotSaid r ⌝ }
 {
-    let desc = said(r.desc);
+    let desc = flag_said(r.desc);
     let filter = r.filter;
     let cursor = Cursor {
         filter,

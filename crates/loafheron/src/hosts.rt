@@ -3,10 +3,10 @@ ghost use mathlib.Core.Path.{_≡_};
 ghost use Rattle.loafheron.specs.Crossing.{stateOf, weaveSaid, hostSaid};
 use crate::State;
 use crate::crossing::flag;
+use crate::crossing::flag_said;
 use crate::crossing::mark_of;
 use crate::crossing::mark_said;
 use crate::crossing::rooms_of;
-use crate::crossing::said;
 use crate::crossing::slots_said;
 use host::Host;
 use record::EventId;
@@ -52,9 +52,9 @@ pub(crate) fn state_of(h: Host) -> State
 fn weave_said(s: State) -> Weave
     ensures { λ r. ⌜ r ≡ weaveSaid s ⌝ }
 {
-    let running = said(s.running);
+    let running = flag_said(s.running);
     let spoiled = mark_said(s.spoiled);
-    let late = said(s.late);
+    let late = flag_said(s.late);
     let rooms = s.rooms;
     let slots = slots_said(rooms);
     let trace = s.trace;
@@ -78,7 +78,7 @@ pub(crate) fn host_said(s: State) -> Host
     ensures { λ r. ⌜ r ≡ hostSaid s ⌝ }
 {
     let weave = weave_said(s);
-    let faulted = said(s.faulted);
+    let faulted = flag_said(s.faulted);
     let lengths = Lengths {
         staging: s.staginglen as usize,
         card: s.cardlen as usize,
