@@ -131,8 +131,8 @@ pub fn zero_range(dst: &mut [u8], from: usize, to: usize)
     }
 }
 
-// Whether every byte from `from` up to, not including, `to` is 0.
-pub fn zero_between(s: &[u8], from: usize, to: usize) -> bool
+// Whether every byte from `from` up to, not including, `to` is 0, byte by byte.
+fn zero_bytes(s: &[u8], from: usize, to: usize) -> bool
     requires { ⌜ from ≤ to ⌝ }
     requires { ⌜ to ≤ length (now s) ⌝ }
     ensures { λ r. ⌜ r ≡ allZero (part from (to - from) (now (s .entry))) ⌝ }
@@ -145,4 +145,20 @@ pub fn zero_between(s: &[u8], from: usize, to: usize) -> bool
         i += 1;
     }
     true
+}
+
+// The same, eight bytes at a time; the last few, fewer than eight, byte by byte.
+pub fn zero_between(s: &[u8], from: usize, to: usize) -> bool
+    requires { ⌜ from ≤ to ⌝ }
+    requires { ⌜ to ≤ length (now s) ⌝ }
+    ensures { λ r. ⌜ r ≡ allZero (part from (to - from) (now (s .entry))) ⌝ }
+{
+    let mut i = from;
+    while 8 <= to - i {
+        if read_u64(s, i) != 0 {
+            return false;
+        }
+        i += 8;
+    }
+    zero_bytes(s, i, to)
 }

@@ -2,19 +2,20 @@
 -- Assumes nothing.
 use mathlib.Core.Path.{_≡_, refl}
 use mathlib.Core.Bool.{Bool, true, false, _&&_, _||_, cond}
-use mathlib.Core.List.{List}
+use mathlib.Core.List.{List, [], _∷_, _++_}
 use Prim.Native.Nat.{ℕ, _≤_, _<_}
 use native.Mathlib.Omega.{arith}
-use borrow.Author.Tests.{leb-true, eqb-true, le-leb, lt-leb}
+use borrow.Author.Tests.{leb-true, eqb-true, ne-eqb, le-leb, lt-leb, lt-ltb}
 use lib.Dec.{leb, ltb, eqb}
-use lib.ListN.{length}
-use Rattle.le.proofs.TestLaws.{and-left, and-right}
+use lib.ListN.{length, getD, drop}
+use Rattle.le.proofs.TestLaws.{and-left, and-right, and-no-right}
 use Rattle.text.specs.declared.decimal.Number.{Number}
 use Rattle.text.specs.declared.decimal.Number.the-variants.{Is, Not}
-use Rattle.text.specs.Topic.{goodTopic}
+use Rattle.text.specs.Utf8.{utf8}
+use Rattle.text.specs.Topic.{noControl, goodText, goodTopic}
 use Rattle.text.specs.Compare.{sameBytes}
 use Rattle.text.specs.Decimal.{numberOf}
-use Rattle.text.specs.Lines.{fields, field}
+use Rattle.text.specs.Lines.{fields, field, tabbed}
 use Rattle.manifest.specs.Words.{modulesWord, grantWord, inWord, outWord}
 use Rattle.manifest.specs.Line.{atMost, oneTo, modulesIn, grantForm, holderIn}
 
@@ -46,11 +47,35 @@ module _ (l f : List ℕ) (ef : f ≡ field 0 l) (n : ℕ) (en : n ≡ length (f
 
 -- ---- a grant, by the tests that `grant_form`, `holder_in` and `Grant::at` make
 
-pub form-is : (l f₀ f₂ f₃ : List ℕ) → f₀ ≡ field 0 l → f₂ ≡ field 2 l → f₃ ≡ field 3 l → (n : ℕ) → n ≡ length (fields l)
-    → (b i o g : Bool) → b ≡ sameBytes f₀ grantWord → i ≡ sameBytes f₂ inWord → o ≡ sameBytes f₂ outWord → g ≡ goodTopic f₃
-    → (eqb n 4 && (b && ((i || o) && g))) ≡ grantForm l
-unfolding grantForm
-form-is l f₀ f₂ f₃ e₀ e₂ e₃ n en b i o g eb ei eo eg = rw (← e₀, ← e₂, ← e₃, ← en, ← eb, ← ei, ← eo, ← eg)
+-- a tab is a control byte
+tab-control : (f rest : List ℕ) → noControl (f ++ (9 ∷ rest)) ≡ false
+unfolding noControl
+tab-control [] rest = refl
+tab-control (x ∷ f) rest = and-no-right (leb 32 x) _ (tab-control f rest)
+
+-- all that stands behind the third tab is a good topic just where it is the fourth field, that one is a good topic, and there are no more
+topic-alone : (ps : List (List ℕ)) → goodTopic (tabbed (drop 3 ps)) ≡ eqb (length ps) 4 && goodTopic (getD ps 3 [])
+unfolding goodText tabbed
+topic-alone [] = refl
+topic-alone (a ∷ []) = refl
+topic-alone (a ∷ b ∷ []) = refl
+topic-alone (a ∷ b ∷ c ∷ []) = refl
+topic-alone (a ∷ b ∷ c ∷ f ∷ []) = refl
+topic-alone (a ∷ b ∷ c ∷ f ∷ g ∷ ps) =
+    let t = f ++ (9 ∷ tabbed (g ∷ ps)) in
+    rw (ne-eqb (length (a ∷ b ∷ c ∷ f ∷ g ∷ ps)) 4 (λ e. omega arith))
+    (and-no-right (leb 1 (length t)) _ (and-no-right (leb (length t) 2048) _ (and-no-right (utf8 t) _ (tab-control f (tabbed (g ∷ ps))))))
+
+asked-first : (n b d g : Bool) → b && (d && (n && g)) ≡ n && (b && (d && g))
+asked-first true b d g = refl
+asked-first false b d g = and-no-right b _ (and-no-right d false refl)
+
+pub form-is : (l f₀ f₂ rest : List ℕ) → f₀ ≡ field 0 l → f₂ ≡ field 2 l → rest ≡ tabbed (drop 3 (fields l))
+    → (b i o g : Bool) → b ≡ sameBytes f₀ grantWord → i ≡ sameBytes f₂ inWord → o ≡ sameBytes f₂ outWord → g ≡ goodTopic rest
+    → (b && ((i || o) && g)) ≡ grantForm l
+unfolding grantForm field
+form-is l f₀ f₂ rest e₀ e₂ e₃ b i o g eb ei eo eg =
+    rw (← e₀, ← e₂, ← eb, ← ei, ← eo, eg, e₃, topic-alone (fields l)) (asked-first (eqb (length (fields l)) 4) b (i || o) (goodTopic (getD (fields l) 3 [])))
 
 module _ (l : List ℕ) (modules : ℕ) (b : Bool) (eb : b ≡ grantForm l) where
   pub holder-is : b ≡ true → (s : List ℕ) → s ≡ field 1 l → (k : ℕ) → k ≡ oneTo modules s → k ≡ holderIn modules l
@@ -107,3 +132,20 @@ unfolding grantForm
 form-topic l q =
     and-right (sameBytes (field 2 l) inWord || sameBytes (field 2 l) outWord) _
     (and-right (sameBytes (field 0 l) grantWord) _ (and-right (eqb (length (fields l)) 4) _ q))
+
+-- its topic is all that stands behind the third tab
+pub grant-rest : (l : List ℕ) (modules k : ℕ) → k ≡ holderIn modules l → (k ≡ 0 → ⊥) → tabbed (drop 3 (fields l)) ≡ field 3 l
+unfolding field tabbed
+grant-rest l modules k ek h =
+    go (fields l) (form-four l (holder-form modules l (lt-ltb 0 (holderIn modules l) (rw ek at pos))))
+  where
+    pos : 0 < k
+    pos = omega arith
+
+    go : (ps : List (List ℕ)) → length ps ≡ 4 → tabbed (drop 3 ps) ≡ getD ps 3 []
+    go [] e = absurd (omega arith)
+    go (a ∷ []) e = absurd (omega arith)
+    go (a ∷ b ∷ []) e = absurd (omega arith)
+    go (a ∷ b ∷ c ∷ []) e = absurd (omega arith)
+    go (a ∷ b ∷ c ∷ f ∷ []) e = refl
+    go (a ∷ b ∷ c ∷ f ∷ g ∷ ps) e = absurd (omega arith)

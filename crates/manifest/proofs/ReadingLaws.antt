@@ -24,10 +24,10 @@ use Rattle.manifest.proofs.PlacesLaws.{grants-behind}
 
 -- ---- the grant of a line, by its third and fourth field
 
-pub grant-is : (l way topic : List ℕ) → way ≡ field 2 l → topic ≡ field 3 l → (modules end k : ℕ) → k ≡ holderIn modules l
-    → (o : Bool) → o ≡ sameBytes way outWord → record { holder = k; out = o; start = end - length topic; len = length topic } ≡ grantAt modules end l
+pub grant-is : (l way : List ℕ) → way ≡ field 2 l → (len : ℕ) → len ≡ length (field 3 l) → (modules end k : ℕ) → k ≡ holderIn modules l
+    → (o : Bool) → o ≡ sameBytes way outWord → record { holder = k; out = o; start = end - len; len = len } ≡ grantAt modules end l
 unfolding grantAt
-grant-is l way topic ew et modules end k ek o eo = rw (← ew, ← et, ← ek, ← eo)
+grant-is l way ew len el modules end k ek o eo = rw (← ew, ← el, ← ek, ← eo)
 
 -- ---- lines read behind i grants that the room has already. `all` is what the whole gives.
 

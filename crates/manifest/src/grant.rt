@@ -3,6 +3,7 @@ use crate::reading::holder_in;
 use le::cut;
 use text::compare::same;
 use text::limits::Limits;
+use text::lines::behind;
 use text::lines::field;
 ghost use mathlib.Core.Path.{_≡_};
 ghost use Prim.Native.Nat.{_≤_};
@@ -39,8 +40,12 @@ impl Grant {
     {
         let holder = holder_in(line, modules);
         let out = same(field(line, 2), b"out");
-        let topic = field(line, 3);
-        let len = topic.len();
+        // A grant's topic is all that stands behind the third tab: nobody looks for a fourth.
+        let len = if holder == 0 {
+            field(line, 3).len()
+        } else {
+            behind(line, 3).len()
+        };
         Grant {
             holder,
             out,

@@ -3,6 +3,7 @@ use text::compare::same;
 use text::decimal::Number;
 use text::decimal::read_number;
 use text::limits::Limits;
+use text::lines::behind;
 use text::lines::field;
 use text::lines::field_count;
 use text::topic::good_topic;
@@ -35,11 +36,11 @@ pub(crate) fn modules_in(line: &[u8]) -> u64
 fn grant_form(line: &[u8]) -> bool
     ensures { λ r. ⌜ r ≡ grantForm (now (line .entry)) ⌝ }
 {
-    let fields = field_count(line) == 4;
     let word = same(field(line, 0), b"grant");
     let way = field(line, 2);
     let direction = same(way, b"in") | same(way, b"out");
-    fields & (word & (direction & good_topic(field(line, 3))))
+    // A good topic has no tab: where all that stands behind the third tab is one, there are four fields.
+    word & (direction & good_topic(behind(line, 3)))
 }
 
 // The module that a line grants something, 0 where the line is no grant.

@@ -4,12 +4,14 @@ use mathlib.Core.Path.{_≡_, refl, sym, ap, ap₂}
 use mathlib.Core.Bool.{Bool, true, false, _&&_}
 use mathlib.Core.List.{List, [], _∷_}
 use Prim.Native.Nat.{ℕ, suc, _+_, _≤_, _<_}
-use native.Mathlib.Nat.{not-suc-le-zero}
+use native.Mathlib.Nat.{not-suc-le-zero, add-zero}
 use native.Mathlib.Omega.{arith}
 use borrow.Author.Tests.{eq-eqb, ne-eqb, eqb-true}
 use lib.Dec.{eqb}
 use lib.ListN.{length, getD, drop, take, drop-of-length-le}
+use Rattle.le.specs.Le.{Bytes, leAt}
 use Rattle.le.proofs.SpliceLaws.{drop-head}
+use Rattle.le.proofs.OnceLaws.{asked-at-once, same-word, same-by-bytes}
 use Rattle.le.proofs.TestLaws.{and-left, and-right, and-no-right}
 use Rattle.text.specs.Compare.{prefixOf, sameBytes}
 
@@ -28,6 +30,20 @@ module _ (f t : List ℕ) (i : ℕ) (all : Bool) where
   pub prefix-end : length f ≤ i → prefixOf (drop i f) (drop i t) ≡ all → true ≡ all
   unfolding prefixOf
   prefix-end h inv = rw (drop-of-length-le f h) at inv
+
+-- eight bytes of both at once
+module _ (f t : List ℕ) (i : ℕ) (all : Bool) (hf : Bytes f) (ht : Bytes t) (h : i + 8 ≤ length f) (k : i + 8 ≤ length t) where
+  eight : prefixOf (drop i f) (drop i t) ≡ eqb (leAt 8 f i) (leAt 8 t i) && prefixOf (drop (i + 8) f) (drop (i + 8) t)
+  unfolding prefixOf
+  eight =
+      rw (add-zero i) at (asked-at-once eqb same-word same-by-bytes f t hf ht 8 i i (λ j. prefixOf (drop (i + j) f) (drop (i + j) t))
+      (λ j l. rw (drop-head f (i + j) (i + suc j) (omega arith) (omega arith), drop-head t (i + j) (i + suc j) (omega arith) (omega arith))))
+
+  pub prefix-eight : leAt 8 f i ≡ leAt 8 t i → prefixOf (drop i f) (drop i t) ≡ all → prefixOf (drop (i + 8) f) (drop (i + 8) t) ≡ all
+  prefix-eight e inv = rw (eight, eq-eqb (leAt 8 f i) (leAt 8 t i) e) at inv
+
+  pub prefix-not-eight : (leAt 8 f i ≡ leAt 8 t i → ⊥) → prefixOf (drop i f) (drop i t) ≡ all → false ≡ all
+  prefix-not-eight e inv = rw (eight, ne-eqb (leAt 8 f i) (leAt 8 t i) e) at inv
 
 pub prefix-short : (f t : List ℕ) → length t < length f → prefixOf f t ≡ false
 unfolding prefixOf

@@ -8,3 +8,4 @@ pub mod DigitLaws
 pub mod SpanLaws
 pub mod SizeLaws
 pub mod FlagLaws
+pub mod PlainLaws

@@ -1,6 +1,24 @@
-// Bytes compared.
+// Bytes compared, eight at a time; the last few, fewer than eight, byte by byte.
 ghost use mathlib.Core.Path.{_≡_};
+ghost use Prim.Native.Nat.{_≤_};
+ghost use lib.ListN.{length, drop};
 ghost use Rattle.text.specs.Compare.{prefixOf, sameBytes};
+
+// Whether a topic has the filter's bytes from `from` on, byte by byte.
+fn same_from(topic: &[u8], filter: &[u8], from: usize) -> bool
+    requires { ⌜ from ≤ length (now filter) ⌝ }
+    requires { ⌜ length (now filter) ≤ length (now topic) ⌝ }
+    ensures { λ r. ⌜ r ≡ prefixOf (drop from (now (filter .entry))) (drop from (now (topic .entry))) ⌝ }
+{
+    let mut i = from;
+    while i < filter.len() {
+        if filter[i] != topic[i] {
+            return false;
+        }
+        i += 1;
+    }
+    true
+}
 
 // Whether a topic begins with a filter.
 pub fn starts_with(topic: &[u8], filter: &[u8]) -> bool
@@ -10,13 +28,13 @@ pub fn starts_with(topic: &[u8], filter: &[u8]) -> bool
         return false;
     }
     let mut i = 0;
-    while i < filter.len() {
-        if filter[i] != topic[i] {
+    while 8 <= filter.len() - i {
+        if le::read_u64(filter, i) != le::read_u64(topic, i) {
             return false;
         }
-        i += 1;
+        i += 8;
     }
-    true
+    same_from(topic, filter, i)
 }
 
 // Byte for byte.

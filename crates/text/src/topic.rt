@@ -1,5 +1,8 @@
 // Topics and filters.
 ghost use mathlib.Core.Path.{_≡_};
+ghost use Prim.Native.Nat.{_≤_};
+ghost use lib.ListN.{length, drop};
+ghost use Rattle.text.specs.Utf8.{utf8};
 ghost use Rattle.text.specs.Topic.{noControl, goodText, goodTopic, cardTopic, goodFilter};
 use crate::limits::Limits;
 
@@ -16,6 +19,26 @@ fn no_control(s: &[u8]) -> bool
     true
 }
 
+// How many bytes at the front are from 32 to 127, in steps of eight: whether the text is good is then up to the others.
+fn plain_front(s: &[u8]) -> usize
+    ensures { λ n. ⌜ (n ≤ length (now (s .entry))) × (utf8 (drop n (now (s .entry))) ≡ utf8 (now (s .entry))) × (noControl (drop n (now (s .entry))) ≡ noControl (now (s .entry))) ⌝ }
+{
+    let mut i = 0;
+    while 8 <= s.len() - i {
+        let eight = le::read_u64(s, i);
+        // A byte above 127 has the highest bit. One below 32 has it not where 96 is added.
+        if eight & 0x8080_8080_8080_8080 != 0 {
+            return i;
+        }
+        let raised = (eight & 0x7F7F_7F7F_7F7F_7F7F) + 0x6060_6060_6060_6060;
+        if raised & 0x8080_8080_8080_8080 != 0x8080_8080_8080_8080 {
+            return i;
+        }
+        i += 8;
+    }
+    i
+}
+
 fn good_text(s: &[u8], least: usize, most: usize) -> bool
     ensures { λ r. ⌜ r ≡ goodText least most (now (s .entry)) ⌝ }
 {
@@ -25,8 +48,10 @@ fn good_text(s: &[u8], least: usize, most: usize) -> bool
     if most < s.len() {
         return false;
     }
-    if crate::utf8::valid(s) {
-        no_control(s)
+    let plain = plain_front(s);
+    let rest = le::tail(s, plain);
+    if crate::utf8::valid(rest) {
+        no_control(rest)
     } else {
         false
     }

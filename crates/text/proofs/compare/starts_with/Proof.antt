@@ -1,11 +1,11 @@
--- `text::compare::starts_with` meets its contract: what is left of both gives what the whole gives. Assumes nothing.
-use mathlib.Core.Path.{_≡_, refl, sym}
+-- `text::compare::starts_with` meets its contract: what is left of both gives what the whole gives, eight bytes at once. Assumes nothing.
+use mathlib.Core.Path.{_≡_, refl, sym, _∙_}
 use Prim.Native.Nat.{_≤_, _-_}
 use native.Mathlib.Omega.{arith}
 use denote.Ref.{now}
 use lib.ListN.{length, drop}
 use Rattle.text.specs.Compare.{prefixOf}
-use Rattle.text.proofs.CompareLaws.{prefix-turn, prefix-bad, prefix-end, prefix-short}
+use Rattle.text.proofs.CompareLaws.{prefix-eight, prefix-not-eight, prefix-short}
 use Rattle.text.proofs.compare.starts_with.Statement.{statement}
 use Rattle.text.proofs.compare.starts_with.Tie as tie
 
@@ -16,24 +16,28 @@ abbrev μ-loop : tie.MeasureT-loop
 μ-loop topic filter i₀ i = length filter - i
 
 returns : tie.Need-returns Inv-loop μ-loop
-returns c = sym (prefix-short (now (c .before .args .filter)) (now (c .before .args .topic)) (c .if1 .taken))
+returns c = sym (prefix-short (now (c .before .before .before .args .filter)) (now (c .before .before .before .args .topic)) (c .if1 .taken))
 
 loop-holds : tie.Need-loop-holds Inv-loop μ-loop
 loop-holds c = (omega arith, refl)
 
-shared-slice-read-if2 : tie.Need-shared-slice-read-if2 Inv-loop μ-loop
-shared-slice-read-if2 c = omega arith
+sub-loop : tie.Need-sub-loop Inv-loop μ-loop
+sub-loop c = omega arith
 
-shared-slice-read-if2-2 : tie.Need-shared-slice-read-if2-2 Inv-loop μ-loop
-shared-slice-read-if2-2 c = omega arith
+read-u64-requires : tie.Need-read-u64-requires Inv-loop μ-loop
+read-u64-requires c κs = omega arith
+
+read-u64-requires-2 : tie.Need-read-u64-requires-2 Inv-loop μ-loop
+read-u64-requires-2 c κs = omega arith
 
 returns-2 : tie.Need-returns-2 Inv-loop μ-loop
 returns-2 c =
-    let c₁ = c .before .before .before .before in
-    let c₂ = c₁ .before .before in
-    let a = c₂ .args in
-    let l = c₁ .loop in
-    prefix-bad (now (a .filter)) (now (a .topic)) (l .i) _ (omega arith) (omega arith) (c .if2 .taken) (l .inv .1)
+    let b = c .before .before .before .before in
+    let d = b .before .before in
+    let a = d .before .before .args in
+    let l = b .loop in
+    prefix-not-eight (now (a .filter)) (now (a .topic)) (l .i) _ (d .shared-slice-known2 .given) (d .before .shared-slice-known .given) (omega arith) (omega arith)
+    (λ e. c .if2 .taken (c .before .before .read-u64 .ensures ∙ e ∙ sym (c .before .read-u642 .ensures))) (l .inv .1)
 
 add-i : tie.Need-add-i Inv-loop μ-loop
 add-i c = omega arith
@@ -43,17 +47,20 @@ loop-less c = omega arith
 
 loop-again : tie.Need-loop-again Inv-loop μ-loop
 loop-again c =
-    let c₁ = c .before .before .before .before in
-    let c₂ = c₁ .before .before in
-    let a = c₂ .args in
-    let l = c₁ .loop in
-    (omega arith, prefix-turn (now (a .filter)) (now (a .topic)) (l .i) _ (omega arith) (omega arith) (c .if2 .left) (l .inv .1))
+    let b = c .before .before .before .before in
+    let d = b .before .before in
+    let a = d .before .before .args in
+    let l = b .loop in (
+      omega arith,
+      prefix-eight (now (a .filter)) (now (a .topic)) (l .i) _ (d .shared-slice-known2 .given) (d .before .shared-slice-known .given) (omega arith) (omega arith)
+          (sym (c .before .before .read-u64 .ensures) ∙ c .if2 .left ∙ c .before .read-u642 .ensures) (l .inv .1),
+    )
+
+same-from-requires : tie.Need-same-from-requires Inv-loop μ-loop
+same-from-requires c κs = (omega arith, omega arith)
 
 returns-3 : tie.Need-returns-3 Inv-loop μ-loop
-returns-3 c =
-    let a = c .before .before .before .args in
-    let l = c .before .loop in
-    prefix-end (now (a .filter)) (now (a .topic)) (l .i) _ (c .loop-test .left) (l .inv .1)
+returns-3 c = c .same-from .ensures ∙ c .before .before .loop .inv .1
 
 pub starts-with-spec : {M : Type 1} → statement M
 starts-with-spec =
@@ -63,10 +70,12 @@ starts-with-spec =
     μ-loop
     returns
     loop-holds
-    shared-slice-read-if2
-    shared-slice-read-if2-2
+    sub-loop
+    read-u64-requires
+    read-u64-requires-2
     returns-2
     add-i
     loop-less
     loop-again
+    same-from-requires
     returns-3)

@@ -1,0 +1,33 @@
+-- `allZero`, eight bytes at once.
+-- Assumes nothing.
+use mathlib.Core.Path.{_≡_}
+use mathlib.Core.Bool.{Bool, true, false, _&&_}
+use mathlib.Core.List.{List, []}
+use Prim.Native.Nat.{ℕ, suc, _+_, _-_, _≤_, _<_}
+use native.Mathlib.Nat.{add-zero}
+use native.Mathlib.Omega.{arith}
+use borrow.Author.Tests.{eq-eqb, ne-eqb}
+use lib.Dec.{eqb}
+use lib.ListN.{length, getD}
+use Rattle.le.specs.Le.{Bytes, leAt}
+use Rattle.le.specs.Splice.{part, allZero}
+use Rattle.le.proofs.SpliceLaws.{part-head}
+use Rattle.le.proofs.OnceLaws.{asked-at-once, no-bytes, same-word, same-by-bytes}
+
+-- the bytes from i up to `to` are all 0 where the first eight are one 0, and the others are all 0
+eight : (s : List ℕ) (i to : ℕ) → Bytes s → i + 8 ≤ to → to ≤ length s
+    → allZero (part i (to - i) s) ≡ eqb (leAt 8 s i) 0 && allZero (part (i + 8) (to - (i + 8)) s)
+unfolding allZero leAt
+eight s i to h l m =
+    rw (add-zero i) at (asked-at-once eqb same-word same-by-bytes s [] h no-bytes 8 i 0 (λ j. allZero (part (i + j) (to - (i + j)) s)) step)
+  where
+    step : (j : ℕ) → j < 8 → allZero (part (i + j) (to - (i + j)) s) ≡ eqb (getD s (i + j) 0) 0 && allZero (part (i + suc j) (to - (i + suc j)) s)
+    step j q = rw (part-head s (i + j) (to - (i + j)) (i + suc j) (to - (i + suc j)) (omega arith) (omega arith) (omega arith))
+
+pub eight-zero : (s : List ℕ) (i to : ℕ) (all : Bool) → Bytes s → i + 8 ≤ to → to ≤ length s → leAt 8 s i ≡ 0
+    → allZero (part i (to - i) s) ≡ all → allZero (part (i + 8) (to - (i + 8)) s) ≡ all
+eight-zero s i to all h l m z inv = rw (eight s i to h l m, eq-eqb (leAt 8 s i) 0 z) at inv
+
+pub eight-not : (s : List ℕ) (i to : ℕ) (all : Bool) → Bytes s → i + 8 ≤ to → to ≤ length s → (leAt 8 s i ≡ 0 → ⊥)
+    → allZero (part i (to - i) s) ≡ all → false ≡ all
+eight-not s i to all h l m z inv = rw (eight s i to h l m, ne-eqb (leAt 8 s i) 0 z) at inv
