@@ -81,6 +81,7 @@ pub record TextOnce : Type 0 where
   pub lines-line : SeenOnce text.lines.line.Kinds.ps text.lines.line.Kinds.r text.lines.line.Reads.Learnt (λ κs z s. now z)
   pub lines-closed : ResultOnce text.lines.closed.Kinds.ps text.lines.closed.Kinds.r text.lines.closed.Reads.Learnt
   pub lines-field-count : ResultOnce text.lines.field_count.Kinds.ps text.lines.field_count.Kinds.r text.lines.field_count.Reads.Learnt
+  pub lines-behind : SeenOnce text.lines.behind.Kinds.ps text.lines.behind.Kinds.r text.lines.behind.Reads.Learnt (λ κs z s. now z)
   pub lines-field : SeenOnce text.lines.field.Kinds.ps text.lines.field.Kinds.r text.lines.field.Reads.Learnt (λ κs z s. now z)
   pub sizes-up-to-8 : ResultOnce text.sizes.up_to_8.Kinds.ps text.sizes.up_to_8.Kinds.r text.sizes.up_to_8.Reads.Learnt
   pub sizes-total-len : ResultOnce text.sizes.total_len.Kinds.ps text.sizes.total_len.Kinds.r text.sizes.total_len.Reads.Learnt
