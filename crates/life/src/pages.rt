@@ -28,7 +28,7 @@ fn value(memory: &[u8], v: &[u8]) {
 }
 
 fn payload(memory: &[u8], flags: usize, p: &[u8]) {
-    if text::flags::is_value(flags) {
+    if (flags == 2) | (flags == 10) {
         value(memory, p);
         return;
     }
