@@ -41,10 +41,10 @@ pub(crate) fn granted(l: &[u8], text: &[u8], out: bool) {
 // hand in, out module topic: of a manifest that no text was read to, with places and a count beyond everything.
 pub(crate) fn by_hand(l: &[u8]) {
     let far = Grant {
+        start: 0xFFFF_FFFF,
+        len: 0xFFFF,
         holder: 1,
         out: false,
-        start: 0xFFFF_FFFF_FFFF_FFFF,
-        len: 0xFFFF_FFFF_FFFF_FFFF,
     };
     let m = Manifest {
         good: true,

@@ -3,11 +3,13 @@
 use mathlib.Core.Path.{_≡_, refl, sym, ap, ap₂, _∙_}
 use mathlib.Core.List.{List, [], _∷_, _++_}
 use Prim.Native.Nat.{ℕ, zero, suc, _+_, _-_, _*_, _/_, _%_, _^_, _≤_, _<_, suc-le-suc}
-use native.Mathlib.Nat.{pow-suc, pow-le-pow-right, lt-of-lt-of-le, zero-lt-suc, add-zero, add-suc, suc-add, add-assoc}
+use native.Mathlib.Nat.{pow-suc, pow-le-pow-right, lt-of-lt-of-le, zero-lt-suc, add-zero, add-suc, suc-add, add-assoc, mul-suc, mul-assoc}
+use native.Mathlib.Numerals.{add-one}
 use native.Mathlib.Omega.{arith}
 use lib.ListN.{length, getD, take, drop, List·getD-append}
 use lib.Seq.{getD-take, getD-drop, getD-append-add}
 use lib.Dec.{lit<}
+use lib.Pow.{pow-add, shl-exact}
 use Rattle.le.specs.Splice.{splice, part}
 use Rattle.le.proofs.SpliceLaws.{getD-splice-before, getD-splice-in, getD-splice-after, part-none, part-head}
 use Rattle.le.specs.Le.{Bytes, leAt, leBytes}
@@ -24,25 +26,20 @@ leAt-lt (suc w) s at h =
 pub leAt-below : (n w : ℕ) (s : List ℕ) (at : ℕ) → Bytes s → w ≤ n → leAt w s at < 256 ^ n
 leAt-below n w s at h l = lt-of-lt-of-le (leAt-lt w s at h) (pow-le-pow-right (lit< tt) l)
 
--- a turn of the loop that reads downward
-pub leAt-turn : (w at i : ℕ) (s : List ℕ) (v : ℕ) → 0 < i → i ≤ w → v ≡ leAt (w - i) s (at + i)
-    → v * 256 + getD s (at + (i - 1)) 0 ≡ leAt (w - (i - 1)) s (at + (i - 1))
+-- one byte more, in its place above the others
+leAt-next : (w : ℕ) (s : List ℕ) (at : ℕ) → leAt (suc w) s at ≡ leAt w s at + getD s (at + w) 0 * 2 ^ (8 * w)
 unfolding leAt
-leAt-turn w at i s v p l e =
-    let ew : w - (i - 1) ≡ suc (w - i) = omega arith in
-    let ea : suc (at + (i - 1)) ≡ at + i = omega arith in
-    rw (ew, ea) (omega (arith, e))
+leAt-next zero s at = rw (add-zero at) (omega arith)
+leAt-next (suc w) s at =
+    let p : 2 ^ (8 * suc w) ≡ 2 ^ (8 * w) * 256 = ap (λ (k : ℕ). 2 ^ k) (mul-suc 8 w) ∙ pow-add 2 (8 * w) 8 in
+    let q : getD s (at + suc w) 0 * 2 ^ (8 * suc w) ≡ getD s (suc at + w) 0 * 2 ^ (8 * w) * 256 =
+    rw (p, add-suc at w, suc-add at w) (sym (mul-assoc (getD s (suc (at + w)) 0) (2 ^ (8 * w)) 256)) in
+    omega (arith, leAt-next w s (suc at), q)
 
--- where that loop begins, and where it ends
-pub nothing-yet : (w at : ℕ) (s : List ℕ) → 0 ≡ leAt (w - w) s (at + w)
-unfolding leAt
-nothing-yet w at s = let e : w - w ≡ 0 = omega arith in rw e
-
-pub all-read : (w at i : ℕ) (s : List ℕ) (v : ℕ) → i ≤ 0 → v ≡ leAt (w - i) s (at + i) → v ≡ leAt w s at
-all-read w at i s v z e =
-    let ew : w - i ≡ w = omega arith in
-    let ea : at + i ≡ at = omega arith in
-    rw (ew, ea) at e
+-- a turn of the loop that reads: of eight bytes none is shifted out
+pub leAt-turn : (i at : ℕ) (s : List ℕ) (v : ℕ) → Bytes s → i < 8 → v ≡ leAt i s at → v + (getD s (at + i) 0 * 2 ^ (8 * i)) % 2 ^ 64 ≡ leAt (i + 1) s at
+leAt-turn i at s v h l e =
+    rw (shl-exact {a = getD s (at + i) 0} 8 (8 * i) 64 (omega (arith, h (at + i))) (omega arith), e, add-one i) (sym (leAt-next i s at))
 
 -- ---- writing
 

@@ -44,27 +44,43 @@ fn read_le(s: &[u8], at: usize, w: usize) -> u64
     ensures { λ r. ⌜ r ≡ leAt w (now (s .entry)) at ⌝ }
 {
     let mut v: u64 = 0;
-    let mut i = w;
-    while 0 < i {
-        i -= 1;
+    let mut i = 0;
+    while i < w {
         let byte = s[at + i] as u64;
-        v = v * 256 + byte;
+        v += byte << (8 * i);
+        i += 1;
     }
     v
+}
+
+// The same at the two widths that there are, a step below the functions that everybody calls: here the compiler makes one load of the bytes, and no
+// caller's test, as one against 0, can take them apart again.
+fn four(s: &[u8], at: usize) -> u64
+    requires { ⌜ at + 4 ≤ length (now s) ⌝ }
+    ensures { λ r. ⌜ r ≡ leAt 4 (now (s .entry)) at ⌝ }
+{
+    read_le(s, at, 4)
+}
+
+fn eight(s: &[u8], at: usize) -> u64
+    requires { ⌜ at + 8 ≤ length (now s) ⌝ }
+    ensures { λ r. ⌜ r ≡ leAt 8 (now (s .entry)) at ⌝ }
+{
+    read_le(s, at, 8)
 }
 
 pub fn read_u32(s: &[u8], at: usize) -> u32
     requires { ⌜ at + 4 ≤ length (now s) ⌝ }
     ensures { λ r. ⌜ r ≡ leAt 4 (now (s .entry)) at ⌝ }
 {
-    read_le(s, at, 4) as u32
+    four(s, at) as u32
 }
 
 pub fn read_u64(s: &[u8], at: usize) -> u64
     requires { ⌜ at + 8 ≤ length (now s) ⌝ }
     ensures { λ r. ⌜ r ≡ leAt 8 (now (s .entry)) at ⌝ }
 {
-    read_le(s, at, 8)
+    eight(s, at)
 }
 
 // The `w` lowest bytes of `v`, written at `at`, at any width: the one proof of little-endian writing.

@@ -66,6 +66,7 @@ module _ (modules at i : ℕ) (gs : List Grant) (all : Manifest) where
 -- ---- the loop: `count` grants are read, and the line that starts at `from` is next
 
 pub record Reading (text : List ℕ) (modules at from count : ℕ) (gs : List Grant) : Type 0 where
+  pub past : at ≤ from
   pub few : count ≤ 64
   pub room : length gs ≡ 64
   pub same : readBehind modules from count gs (lines (drop from text)) ≡ readLines modules at (lines (drop at text))
@@ -76,7 +77,7 @@ room-64 gs e = rw e
 
 pub reading-start : (text : List ℕ) (modules at : ℕ) (gs : List Grant) → gs ≡ noGrants → Reading text modules at at 0 gs
 reading-start text modules at gs e =
-    record { few = omega arith; room = room-64 gs e; same = rw e (behind-none modules at (lines (drop at text))) }
+    record { past = omega arith; few = omega arith; room = room-64 gs e; same = rw e (behind-none modules at (lines (drop at text))) }
 
 module _ (text : List ℕ) (modules at from count : ℕ) (gs : List Grant) (w : Reading text modules at from count gs) where
   pub reading-done : length text ≤ from
@@ -101,6 +102,7 @@ module _ (text : List ℕ) (modules at from count : ℕ) (gs : List Grant) (w : 
       pub reading-more : count < 64 → (g .holder ≡ 0 → ⊥) → Reading text modules at (from + length l + 1) (count + 1) (set gs count g)
       reading-more b z =
           record {
+            past = omega (arith, w .past);
             few = omega arith;
             room = simp length-set (w .room);
             same = rw eg (read-turn modules from count gs _ _ _ stepped (from + length l) refl (λ q. z (holder-is ∙ q)));

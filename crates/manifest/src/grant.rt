@@ -6,17 +6,18 @@ use text::limits::Limits;
 use text::lines::behind;
 use text::lines::field;
 ghost use mathlib.Core.Path.{_≡_};
-ghost use Prim.Native.Nat.{_≤_};
+ghost use Prim.Native.Nat.{_≤_, _<_};
 ghost use lib.ListN.{length};
 ghost use Rattle.manifest.specs.Rights.{gives};
 ghost use Rattle.manifest.specs.Places.{noGrants, grantAt, rightAt};
 
-// Module `holder` may write (`out`), or read and list (not `out`), the topic of `len` bytes that stands at `start` of the text.
+// Module `holder` may write (`out`), or read and list (not `out`), the topic of `len` bytes that stands at `start` of the text. Eight bytes with no gap
+// between them: all 64 are cleared and handed on in every call, and a gap takes that apart into hundreds of stores.
 pub struct Grant {
-    pub holder: u64,
+    pub start: u32,
+    pub len: u16,
+    pub holder: u8,
     pub out: bool,
-    pub start: usize,
-    pub len: usize,
 }
 
 impl Grant {
@@ -25,32 +26,36 @@ impl Grant {
         ensures { λ r. ⌜ r ≡ noGrants ⌝ }
     {
         let free = Grant {
-            holder: 0,
-            out: false,
             start: 0,
             len: 0,
+            holder: 0,
+            out: false,
         };
         [free; Limits::GRANTS]
     }
 
-    // The grant of a line that ends at `end` of the text; its holder is 0 where the line is no grant.
+    // The grant of a line that ends at `end` of the text; its holder is 0 where the line is no grant. Line one stands before it.
     pub(crate) fn at(line: &[u8], end: usize, modules: u64) -> Grant
-        requires { ⌜ length (now line) ≤ end ⌝ }
+        requires { ⌜ (length (now line) < end) × (end ≤ 65536) ⌝ }
+        requires { ⌜ modules ≤ 16 ⌝ }
         ensures { λ r. ⌜ r ≡ grantAt modules end (now (line .entry)) ⌝ }
     {
-        let holder = holder_in(line, modules);
-        let out = same(field(line, 2), b"out");
-        // A grant's topic is all that stands behind the third tab: nobody looks for a fourth.
+        // Each tab is looked for behind the one before it.
+        let number = behind(line, 1);
+        let way = behind(number, 1);
+        let topic = behind(way, 1);
+        let holder = holder_in(line, number, way, topic, modules);
+        let out = same(field(way, 0), b"out");
         let len = if holder == 0 {
-            field(line, 3).len()
+            field(topic, 0).len()
         } else {
-            behind(line, 3).len()
+            topic.len()
         };
         Grant {
-            holder,
+            start: (end - len) as u32,
+            len: len as u16,
+            holder: holder as u8,
             out,
-            start: end - len,
-            len,
         }
     }
 
@@ -58,14 +63,14 @@ impl Grant {
     pub(crate) fn gives(self, text: &[u8], holder: u64, out: bool, topic: &[u8]) -> bool
         ensures { λ r. ⌜ r ≡ gives (rightAt (now (text .entry)) self) holder out (now (topic .entry)) ⌝ }
     {
-        if self.holder != holder {
+        if self.holder as u64 != holder {
             return false;
         }
         if self.out != out {
             return false;
         }
-        let start = self.start;
-        let len = self.len;
+        let start = self.start as usize;
+        let len = self.len as usize;
         same(cut(text, start, len), topic)
     }
 }

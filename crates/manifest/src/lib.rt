@@ -8,7 +8,8 @@ use text::lines::closed;
 use text::lines::line;
 use text::words::is_core;
 ghost use mathlib.Core.Path.{_≡_};
-ghost use lib.ListN.{drop};
+ghost use Prim.Native.Nat.{_≤_, _<_};
+ghost use lib.ListN.{length, drop};
 ghost use Rattle.text.specs.Lines.{lines};
 ghost use Rattle.manifest.specs.Rights.{granted};
 ghost use Rattle.manifest.specs.Places.{refused, readLines, readOf, rightsOf};
@@ -38,8 +39,10 @@ impl Manifest {
         }
     }
 
-    // The lines from `at` on, each of which must be a grant.
+    // The lines from `at` on, behind line one, each of which must be a grant.
     fn read_grants(text: &[u8], at: usize, modules: u64) -> Manifest
+        requires { ⌜ (0 < at) × (length (now text) ≤ 65536) ⌝ }
+        requires { ⌜ modules ≤ 16 ⌝ }
         ensures { λ r. ⌜ r ≡ readLines modules at (lines (drop at (now (text .entry)))) ⌝ }
     {
         let mut grants = Grant::none();

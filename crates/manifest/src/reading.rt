@@ -3,11 +3,12 @@ use text::compare::same;
 use text::decimal::Number;
 use text::decimal::read_number;
 use text::limits::Limits;
-use text::lines::behind;
 use text::lines::field;
 use text::lines::field_count;
 use text::topic::good_topic;
 ghost use mathlib.Core.Path.{_≡_};
+ghost use lib.ListN.{drop};
+ghost use Rattle.text.specs.Lines.{fields, tabbed};
 ghost use Rattle.manifest.specs.Line.{oneTo, modulesIn, grantForm, holderIn};
 
 // The number from 1 to `most` that the bytes write, 0 where they write none.
@@ -32,23 +33,26 @@ pub(crate) fn modules_in(line: &[u8]) -> u64
     }
 }
 
-// Whether a line is a grant, but for its module number.
-fn grant_form(line: &[u8]) -> bool
+// Whether a line is a grant, but for its module number: `way` is what stands behind its second tab, and `topic` what stands behind its third. A good topic has
+// no tab: where all that stands behind the third tab is one, there are four fields.
+fn grant_form(line: &[u8], way: &[u8], topic: &[u8]) -> bool
+    requires { ⌜ (now way ≡ tabbed (drop 2 (fields (now line)))) × (now topic ≡ tabbed (drop 3 (fields (now line)))) ⌝ }
     ensures { λ r. ⌜ r ≡ grantForm (now (line .entry)) ⌝ }
 {
     let word = same(field(line, 0), b"grant");
-    let way = field(line, 2);
-    let direction = same(way, b"in") | same(way, b"out");
-    // A good topic has no tab: where all that stands behind the third tab is one, there are four fields.
-    word & (direction & good_topic(behind(line, 3)))
+    let said = field(way, 0);
+    let direction = same(said, b"in") | same(said, b"out");
+    word & (direction & good_topic(topic))
 }
 
-// The module that a line grants something, 0 where the line is no grant.
-pub(crate) fn holder_in(line: &[u8], modules: u64) -> u64
+// The module that a line grants something, 0 where the line is no grant. Behind its tabs stand `number`, `way` and `topic`.
+pub(crate) fn holder_in(line: &[u8], number: &[u8], way: &[u8], topic: &[u8], modules: u64) -> u64
+    requires { ⌜ now number ≡ tabbed (drop 1 (fields (now line))) ⌝ }
+    requires { ⌜ (now way ≡ tabbed (drop 2 (fields (now line)))) × (now topic ≡ tabbed (drop 3 (fields (now line)))) ⌝ }
     ensures { λ r. ⌜ r ≡ holderIn modules (now (line .entry)) ⌝ }
 {
-    if grant_form(line) {
-        one_to(field(line, 1), modules)
+    if grant_form(line, way, topic) {
+        one_to(field(number, 0), modules)
     } else {
         0
     }

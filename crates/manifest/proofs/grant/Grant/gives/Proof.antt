@@ -14,4 +14,14 @@ returns-3 : tie.Need-returns-3
 returns-3 c = search (needs, topic-asked)
 
 pub gives-spec : {M : Type 1} → statement M
-gives-spec = tie.close (tie.spec returns returns-2 (λ c κs. search needs) (λ c κs. search needs) returns-3)
+gives-spec =
+    tie.close
+    (tie.spec
+    (λ c. search needs)
+    returns
+    returns-2
+    (λ c. search needs)
+    (λ c. search needs)
+    (λ c κs. search needs)
+    (λ c κs. search needs)
+    returns-3)
