@@ -32,9 +32,9 @@ unfolding leAt
 leAt-next zero s at = rw (add-zero at) (omega arith)
 leAt-next (suc w) s at =
     let p : 2 ^ (8 * suc w) ≡ 2 ^ (8 * w) * 256 = ap (λ (k : ℕ). 2 ^ k) (mul-suc 8 w) ∙ pow-add 2 (8 * w) 8 in
-    let q : getD s (at + suc w) 0 * 2 ^ (8 * suc w) ≡ getD s (suc at + w) 0 * 2 ^ (8 * w) * 256 =
-    rw (p, add-suc at w, suc-add at w) (sym (mul-assoc (getD s (suc (at + w)) 0) (2 ^ (8 * w)) 256)) in
-    omega (arith, leAt-next w s (suc at), q)
+    let b = getD s (suc (at + w)) 0 in
+    let ih : leAt (suc w) s (suc at) ≡ leAt w s (suc at) + b * 2 ^ (8 * w) = rw (suc-add at w) at (leAt-next w s (suc at)) in
+    rw (p, add-suc at w) (omega (arith, ih, mul-assoc b (2 ^ (8 * w)) 256))
 
 -- a turn of the loop that reads: of eight bytes none is shifted out
 pub leAt-turn : (i at : ℕ) (s : List ℕ) (v : ℕ) → Bytes s → i < 8 → v ≡ leAt i s at → v + (getD s (at + i) 0 * 2 ^ (8 * i)) % 2 ^ 64 ≡ leAt (i + 1) s at

@@ -46,6 +46,7 @@ impl Grant {
         let topic = behind(way, 1);
         let holder = holder_in(line, number, way, topic, modules);
         let out = same(field(way, 0), b"out");
+        // A grant's topic is all that stands behind the third tab: nobody looks for a fourth.
         let len = if holder == 0 {
             field(topic, 0).len()
         } else {
