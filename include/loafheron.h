@@ -1,7 +1,9 @@
 /* Loafheron: the proved host of a looper box, for C.
  *
- * Link target/staticlib/libloafheron.a, which `rt staticlib loafheron` makes. Every function is proved to answer just what the
- * requirements (document 01) say, for every state and every byte that it is lent.
+ * Link target/staticlib/libloafheron.a, which `rt staticlib loafheron` makes, for x86-64 Linux and no other machine. Of every
+ * function's source it is proved that it answers just what its definition says, for every state and every byte that it is lent.
+ * That the definitions say what the requirements (document 01) say is read, and what the compiler makes of the source is tested:
+ * docs/TRUST.md.
  *
  * A STATE goes in by value and comes out by value, beside the answer. Begin with loafheron_mount, keep the state that
  * each call hands back, and give it to the next call. The host keeps nothing itself and calls nothing.
@@ -13,7 +15,8 @@
  *   manifest  at most 65,536 bytes: how many modules there are, and what each may write, read and list
  * Staging, card and manifest have the same lengths at every call as at mount; other lengths are refused with -5. A buffer
  * that is lent as `const` is not changed. Two buffers of one call must not overlap, and no pointer may be null, not even
- * with a length of 0: these two rules are C's, and the host cannot look at them. Where they are kept, every call is answered.
+ * with a length of 0: these two rules are C's, and the host cannot look at them. Where they are kept, and the stack suffices, every call is
+ * answered.
  *
  * ADDRESSES in a module's memory (`at`, and all inside argument records) are plain numbers that the host tests itself: a
  * wrong one is answered with -5.
@@ -175,17 +178,20 @@ loafheron_answer loafheron_ingress(loafheron_state state, uint8_t *staging, size
                                    size_t topic_len, const uint8_t *payload, size_t payload_len);
 
 /* The module calls. `at` is the address of the argument record in the module's memory. The module's answer is the code
- * where it is below 0, else the value. */
+ * where it is below 0, else the value. Each may be refused with -5 (a bad argument, length, state or manifest), -2 (no weave is
+ * running), -6 (the budget: this and all later ones of the weave) and -1 (after a panic). What stands at each is what it has
+ * besides. */
 
 /* filament_write, 40 bytes: answers 0 and stages one record (it is saved only if the weave is committed). A write to
- * filament/core/panic answers 0, stages nothing, and spoils the weave. -5, -2, -6 or -1, -7, -4. */
+ * filament/core/panic answers 0, stages nothing, and spoils the weave. -1: no `out` grant. -7: the value. -4: no room. */
 LOAFHERON_KEEP
 loafheron_answer loafheron_write(loafheron_state state, const uint8_t *memory, size_t memory_len, uint8_t *staging,
                                  size_t staging_len, const uint8_t *card, size_t card_len, const uint8_t *manifest,
                                  size_t manifest_len, uint64_t at);
 
 /* filament_read, 40 bytes: the staged events with exactly that topic, as many whole records as fit. Answers the bytes
- * written to memory, 0 when none is left. -4: the out buffer is shorter than the next record. -3: staged part not sound. */
+ * written to memory, 0 when none is left. -1: no `in` grant. -3: staged part not sound. -4: the out buffer is shorter than the
+ * next record. */
 LOAFHERON_KEEP
 loafheron_answer loafheron_read(loafheron_state state, uint8_t *memory, size_t memory_len, const uint8_t *staging,
                                 size_t staging_len, const uint8_t *card, size_t card_len, const uint8_t *manifest,

@@ -16,7 +16,6 @@ use Rattle.text.specs.Topic.{noControl, goodText, goodTopic}
 use Rattle.text.specs.Compare.{sameBytes}
 use Rattle.text.specs.Decimal.{numberOf}
 use Rattle.text.specs.Lines.{fields, field, tabbed}
-use Rattle.text.proofs.LinesLaws.{field-there}
 use Rattle.manifest.specs.Words.{modulesWord, grantWord, inWord, outWord}
 use Rattle.manifest.specs.Line.{atMost, oneTo, modulesIn, grantForm, holderIn}
 
@@ -71,18 +70,17 @@ asked-first : (n b d g : Bool) → b && (d && (n && g)) ≡ n && (b && (d && g))
 asked-first true b d g = refl
 asked-first false b d g = and-no-right b _ (and-no-right d false refl)
 
-pub form-is : (l f₀ way f₂ rest : List ℕ) → f₀ ≡ field 0 l → way ≡ tabbed (drop 2 (fields l)) → f₂ ≡ field 0 way → rest ≡ tabbed (drop 3 (fields l))
+pub form-is : (l f₀ f₂ rest : List ℕ) → f₀ ≡ field 0 l → f₂ ≡ field 2 l → rest ≡ tabbed (drop 3 (fields l))
     → (b i o g : Bool) → b ≡ sameBytes f₀ grantWord → i ≡ sameBytes f₂ inWord → o ≡ sameBytes f₂ outWord → g ≡ goodTopic rest
     → (b && ((i || o) && g)) ≡ grantForm l
 unfolding grantForm field
-form-is l f₀ way f₂ rest e₀ ew e₂ e₃ b i o g eb ei eo eg =
-    rw (← e₀, ← field-there 2 l way ew f₂ e₂, ← eb, ← ei, ← eo, eg, e₃, topic-alone (fields l)) (asked-first (eqb (length (fields l)) 4) b (i || o) (goodTopic (getD (fields l) 3 [])))
+form-is l f₀ f₂ rest e₀ e₂ e₃ b i o g eb ei eo eg =
+    rw (← e₀, ← e₂, ← eb, ← ei, ← eo, eg, e₃, topic-alone (fields l)) (asked-first (eqb (length (fields l)) 4) b (i || o) (goodTopic (getD (fields l) 3 [])))
 
 module _ (l : List ℕ) (modules : ℕ) (b : Bool) (eb : b ≡ grantForm l) where
-  pub holder-is : b ≡ true → (rest : List ℕ) → rest ≡ tabbed (drop 1 (fields l)) → (s : List ℕ) → s ≡ field 0 rest
-      → (k : ℕ) → k ≡ oneTo modules s → k ≡ holderIn modules l
+  pub holder-is : b ≡ true → (s : List ℕ) → s ≡ field 1 l → (k : ℕ) → k ≡ oneTo modules s → k ≡ holderIn modules l
   unfolding holderIn
-  holder-is q rest er s es k ek = rw (← eb, q, ← field-there 1 l rest er s es) ek
+  holder-is q s es k ek = rw (← eb, q, ← es) ek
 
   pub holder-none : b ≡ false → 0 ≡ holderIn modules l
   unfolding holderIn

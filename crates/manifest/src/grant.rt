@@ -41,11 +41,12 @@ impl Grant {
         ensures { λ r. ⌜ r ≡ grantAt modules end (now (line .entry)) ⌝ }
     {
         // Each tab is looked for behind the one before it.
-        let number = behind(line, 1);
-        let way = behind(number, 1);
-        let topic = behind(way, 1);
-        let holder = holder_in(line, number, way, topic, modules);
-        let out = same(field(way, 0), b"out");
+        let one = behind(line, 1);
+        let two = behind(one, 1);
+        let topic = behind(two, 1);
+        let way = field(two, 0);
+        let holder = holder_in(line, field(one, 0), way, topic, modules);
+        let out = same(way, b"out");
         // A grant's topic is all that stands behind the third tab: nobody looks for a fourth.
         let len = if holder == 0 {
             field(topic, 0).len()

@@ -8,7 +8,7 @@ use text::lines::field_count;
 use text::topic::good_topic;
 ghost use mathlib.Core.Path.{_≡_};
 ghost use lib.ListN.{drop};
-ghost use Rattle.text.specs.Lines.{fields, tabbed};
+ghost use Rattle.text.specs.Lines.{fields, field, tabbed};
 ghost use Rattle.manifest.specs.Line.{oneTo, modulesIn, grantForm, holderIn};
 
 // The number from 1 to `most` that the bytes write, 0 where they write none.
@@ -33,26 +33,25 @@ pub(crate) fn modules_in(line: &[u8]) -> u64
     }
 }
 
-// Whether a line is a grant, but for its module number: `way` is what stands behind its second tab, and `topic` what stands behind its third. A good topic has
-// no tab: where all that stands behind the third tab is one, there are four fields.
+// Whether a line is a grant, but for its module number: `way` is its third field, and `topic` all that stands behind its third tab. A good topic has no tab: where
+// that is one, there are four fields.
 fn grant_form(line: &[u8], way: &[u8], topic: &[u8]) -> bool
-    requires { ⌜ (now way ≡ tabbed (drop 2 (fields (now line)))) × (now topic ≡ tabbed (drop 3 (fields (now line)))) ⌝ }
+    requires { ⌜ (now way ≡ field 2 (now line)) × (now topic ≡ tabbed (drop 3 (fields (now line)))) ⌝ }
     ensures { λ r. ⌜ r ≡ grantForm (now (line .entry)) ⌝ }
 {
     let word = same(field(line, 0), b"grant");
-    let said = field(way, 0);
-    let direction = same(said, b"in") | same(said, b"out");
+    let direction = same(way, b"in") | same(way, b"out");
     word & (direction & good_topic(topic))
 }
 
-// The module that a line grants something, 0 where the line is no grant. Behind its tabs stand `number`, `way` and `topic`.
+// The module that a line grants something, 0 where the line is no grant: `number` is its second field.
 pub(crate) fn holder_in(line: &[u8], number: &[u8], way: &[u8], topic: &[u8], modules: u64) -> u64
-    requires { ⌜ now number ≡ tabbed (drop 1 (fields (now line))) ⌝ }
-    requires { ⌜ (now way ≡ tabbed (drop 2 (fields (now line)))) × (now topic ≡ tabbed (drop 3 (fields (now line)))) ⌝ }
+    requires { ⌜ now number ≡ field 1 (now line) ⌝ }
+    requires { ⌜ (now way ≡ field 2 (now line)) × (now topic ≡ tabbed (drop 3 (fields (now line)))) ⌝ }
     ensures { λ r. ⌜ r ≡ holderIn modules (now (line .entry)) ⌝ }
 {
     if grant_form(line, way, topic) {
-        one_to(field(number, 0), modules)
+        one_to(number, modules)
     } else {
         0
     }
