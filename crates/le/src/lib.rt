@@ -53,8 +53,8 @@ fn read_le(s: &[u8], at: usize, w: usize) -> u64
     v
 }
 
-// The same at the two widths that there are. What everybody calls stands a step above: so the compiler has made one load of the bytes before a caller's test,
-// as one against 0, can take them apart.
+// The same at the two widths that there are. They stand a call below `read_u32` and `read_u64`, so that the compiler has made one load of the bytes before a
+// caller's test, as one against 0, can take them apart (DECISIONS, D34).
 fn four(s: &[u8], at: usize) -> u64
     requires { ⌜ at + 4 ≤ length (now s) ⌝ }
     ensures { λ r. ⌜ r ≡ leAt 4 (now (s .entry)) at ⌝ }

@@ -4,6 +4,7 @@ ghost use Rattle.loafheron.specs.Crossing.{flag, flagSaid, markOf, markS
 use crate::Room;
 use card::Cursor;
 use record::EventId;
+use weave::Code;
 use weave::Mark;
 use weave::Slot;
 use weave::Spoiled;
@@ -35,7 +36,7 @@ pub(crate) fn mark_said(n: i64) -> Mark
     if n == 0 {
         return Mark(Spoiled::Not);
     }
-    if n == -6 {
+    if n == Code::BUDGET {
         return Mark(Spoiled::Overspent);
     }
     Mark(Spoiled::Panicked)

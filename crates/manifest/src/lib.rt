@@ -83,7 +83,6 @@ impl Manifest {
             if modules == 0 {
                 return Manifest::refused();
             }
-            // A line that may be left out, as A6's `policy` and A11's `charge`, would be looked for here and move `at` behind itself.
             let at = one.len() + 1;
             Manifest::read_grants(text, at, modules)
         } else {

@@ -15,7 +15,7 @@ use Rattle.text.proofs.DigitLaws.{length-digits}
 use Rattle.weave.specs.declared.Code.{Code}
 use Rattle.weave.specs.declared.Code.the-variants.{Fine, Denied, NotNow, Unsound, NoRoom, Bad, Budget, BadValue}
 use Rattle.weave.specs.Codes.{isFine}
-use Rattle.script.specs.Saying.{Put, behind, printed, numberText, sizeOf, answerText}
+use Rattle.script.specs.Saying.{Put, behind, printed, numberText, unsigned, answerText}
 
 pub put-none : (s : List ℕ) (at : ℕ) → at ≤ length s → Put s s at [] at
 put-none s at h = record { laid = sym (splice-nil s at); ends = omega arith; whole = h }
@@ -67,7 +67,7 @@ answer-fine : (c : Code) (v : ℕ) → isFine c ≡ true → answerText c v ≡ 
 unfolding answerText
 answer-fine c v e = rw e
 
-answer-refused : (c : Code) (v : ℕ) → isFine c ≡ false → answerText c v ≡ 45 ∷ decimal (sizeOf c)
+answer-refused : (c : Code) (v : ℕ) → isFine c ≡ false → answerText c v ≡ 45 ∷ decimal (unsigned c)
 unfolding answerText numberText
 answer-refused Fine v e = let z : _≡_ {A = ℕ} 0 1 = cc in absurd (omega arith)
 answer-refused Denied v e = refl
@@ -81,7 +81,7 @@ answer-refused BadValue v e = refl
 pub number-put : (s₀ s : List ℕ) (at r : ℕ) (c : Code) (v : ℕ) (t : Bool) → t ≡ isFine c → t ≡ true → Put s₀ s at (9 ∷ decimal v) r → Put s₀ s at (9 ∷ answerText c v) r
 number-put s₀ s at r c v t e f p = put-as s₀ s at r _ _ p (ap (λ (l : List ℕ). 9 ∷ l) (sym (answer-fine c v (sym e ∙ f))))
 
-pub code-put : (s₀ s₁ s₂ : List ℕ) (at a r : ℕ) (c : Code) (v n : ℕ) (t : Bool) → t ≡ isFine c → t ≡ false → n ≡ sizeOf c
+pub code-put : (s₀ s₁ s₂ : List ℕ) (at a r : ℕ) (c : Code) (v n : ℕ) (t : Bool) → t ≡ isFine c → t ≡ false → n ≡ unsigned c
     → Put s₀ s₁ at (9 ∷ 45 ∷ []) a → Put s₁ s₂ a (decimal n) r → Put s₀ s₂ at (9 ∷ answerText c v) r
 code-put s₀ s₁ s₂ at a r c v n t e f d p q =
     put-as s₀ s₂ at r _ _ (put-then s₀ s₁ s₂ at a r _ _ p q)

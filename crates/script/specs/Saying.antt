@@ -27,16 +27,16 @@ unfoldable pub numberText : ℤ → List ℕ
 numberText (pos n) = decimal n
 numberText (negsuc n) = 45 ∷ decimal (suc n)
 
--- the digits of a code's number
-abbrev pub sizeOf : Code → ℕ
-sizeOf Fine = 0
-sizeOf Denied = 1
-sizeOf NotNow = 2
-sizeOf Unsound = 3
-sizeOf NoRoom = 4
-sizeOf Bad = 5
-sizeOf Budget = 6
-sizeOf BadValue = 7
+-- a code's number without its sign (weave/Codes: `number` has the numbers; SayLaws: `answer-refused` ties the two)
+abbrev pub unsigned : Code → ℕ
+unsigned Fine = 0
+unsigned Denied = 1
+unsigned NotNow = 2
+unsigned Unsound = 3
+unsigned NoRoom = 4
+unsigned Bad = 5
+unsigned Budget = 6
+unsigned BadValue = 7
 
 -- what a call is answered with: its number, or the code it was refused with
 unfoldable pub answerText : Code → ℕ → List ℕ

@@ -4,7 +4,7 @@ ghost use mathlib.Core.List.{[], _∷_};
 ghost use Prim.Native.Nat.{_+_, _≤_};
 ghost use lib.ListN.{length};
 ghost use Rattle.text.specs.Decimal.{decimal};
-ghost use Rattle.script.specs.Saying.{Put, answerText, sizeOf, saidAnswer};
+ghost use Rattle.script.specs.Saying.{Put, answerText, unsigned, saidAnswer};
 use crate::Buffer;
 use weave::Code;
 
@@ -53,8 +53,9 @@ pub fn put_numeral(out: &mut [u8], at: usize, n: u64) -> usize
     put_digits(out, a, n)
 }
 
-fn size(c: Code) -> u64
-    ensures { λ r. ⌜ r ≡ sizeOf c ⌝ }
+// A code's number without its sign.
+fn unsigned(c: Code) -> u64
+    ensures { λ r. ⌜ r ≡ unsigned c ⌝ }
 {
     match c {
         Code::Fine => 0,
@@ -78,7 +79,7 @@ pub fn put_answer(out: &mut [u8], at: usize, c: Code, v: u64) -> usize
         return put_numeral(out, at, v);
     }
     let a = put_field(out, at, b"-");
-    put_digits(out, a, size(c))
+    put_digits(out, a, unsigned(c))
 }
 
 // A word, and what a call is answered with.
