@@ -1,6 +1,6 @@
 // A program's cases, as lines of its input: a word, then numbers, words and bytes, a tab between each two.
 ghost use mathlib.Core.Path.{_≡_};
-ghost use Prim.Native.Nat.{_<_, _≤_};
+ghost use Prim.Native.Nat.{_%_, _^_, _<_, _≤_};
 ghost use lib.ListN.{length};
 ghost use Rattle.text.specs.Decimal.{numberOf};
 ghost use Rattle.text.specs.Lines.{field, fields};
@@ -29,12 +29,16 @@ pub fn number(l: &[u8], k: usize) -> u64
     number_or(l, k, 0)
 }
 
-pub fn size(l: &[u8], k: usize) -> usize {
+pub fn size(l: &[u8], k: usize) -> usize
+    ensures { λ r. ⌜ r ≡ orElse (numberOf (field k (now (l .entry)))) 0 ⌝ }
+{
     number(l, k) as usize
 }
 
 // The same, of 32 bits.
-pub fn half(l: &[u8], k: usize) -> u32 {
+pub fn half(l: &[u8], k: usize) -> u32
+    ensures { λ r. ⌜ r ≡ orElse (numberOf (field k (now (l .entry)))) 0 % 2 ^ 32 ⌝ }
+{
     (number(l, k) % 4294967296) as u32
 }
 
