@@ -98,6 +98,24 @@ getD-splice-after (x ∷ xs) zero (y ∷ ys) (suc i) d h = getD-splice-after xs 
 getD-splice-after (x ∷ xs) (suc at) ys zero d h = absurd (omega arith)
 getD-splice-after (x ∷ xs) (suc at) ys (suc i) d h = getD-splice-after xs at ys i d (omega arith)
 
+-- ---- what would lie past the end is lost
+
+pub laid-past : (xs : List ℕ) (at : ℕ) (ys : List ℕ) → length xs ≤ at → xs ≡ splice xs at ys
+unfolding splice
+laid-past [] at ys h = refl
+laid-past (x ∷ xs) zero ys h = absurd (not-suc-le-zero h)
+laid-past (x ∷ xs) (suc at) ys h = ap (λ (r : List ℕ). x ∷ r) (laid-past xs at ys (le-of-suc-le-suc h))
+
+splice-clip : (xs : List ℕ) (at : ℕ) (ys : List ℕ) → splice xs at (take (length xs - at) ys) ≡ splice xs at ys
+unfolding splice
+splice-clip [] at ys = refl
+splice-clip (x ∷ xs) zero [] = rw sub-zero
+splice-clip (x ∷ xs) zero (y ∷ ys) = rw sub-zero (ap (λ (r : List ℕ). y ∷ r) (rw sub-zero at (splice-clip xs zero ys)))
+splice-clip (x ∷ xs) (suc at) ys = rw suc-sub-suc (ap (λ (r : List ℕ). x ∷ r) (splice-clip xs at ys))
+
+pub laid-clipped : (xs : List ℕ) (at : ℕ) (ys q r : List ℕ) → q ≡ take (length xs - at) ys → r ≡ splice xs at q → r ≡ splice xs at ys
+laid-clipped xs at ys q r qe re = re ∙ ap (splice xs at) qe ∙ splice-clip xs at ys
+
 -- ---- parts of the result
 
 pub take-splice-before : (n : ℕ) (xs : List ℕ) (at : ℕ) (ys : List ℕ) → n ≤ at → take n (splice xs at ys) ≡ take n xs

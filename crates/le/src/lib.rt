@@ -125,6 +125,17 @@ pub fn copy_at(src: &[u8], dst: &mut [u8], at: usize)
     }
 }
 
+// As much of `src` as `dst` has room for from `at` on, written there: no caller has to ask first.
+pub fn lay(src: &[u8], dst: &mut [u8], at: usize)
+    ensures { λ _. ⌜ now (dst .exit) ≡ splice (now (dst .entry)) at (now (src .entry)) ⌝ }
+{
+    if dst.len() <= at {
+        return;
+    }
+    let room = dst.len() - at;
+    copy_at(front(src, room), dst, at);
+}
+
 // The `n` bytes of `src` from `a` on, written over `dst` from `at` on.
 pub fn copy_part(src: &[u8], a: usize, n: usize, dst: &mut [u8], at: usize)
     requires { ⌜ a + n ≤ length (now src) ⌝ }

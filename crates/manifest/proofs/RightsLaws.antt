@@ -11,7 +11,7 @@ use Rattle.text.specs.Compare.{sameBytes}
 use Rattle.text.specs.Words.{logTopic, panicTopic, coreTopic}
 use Rattle.le.proofs.TestLaws.{and-left, and-right}
 use Rattle.text.proofs.CompareLaws.{same-true, same-refl}
-use Rattle.manifest.specs.Rights.{asked, Right, gives, anyGives, granted}
+use Rattle.manifest.specs.Rights.{Right, gives, anyGives, granted}
 
 beq-true : (a b : Bool) → Bool·beq a b ≡ true → a ≡ b
 beq-true true true e = refl
@@ -22,6 +22,10 @@ beq-true false false e = refl
 beq-refl : (a : Bool) → Bool·beq a a ≡ true
 beq-refl true = refl
 beq-refl false = refl
+
+-- the grant that a question asks for
+abbrev pub asked : ℕ → Bool → List ℕ → Right
+asked k out topic = record { holder = k; out = out; topic = topic }
 
 -- a grant gives just what it names: not another topic that begins with its own, nor one that its own begins with
 pub gives-exact : (g : Right) (k : ℕ) (out : Bool) (topic : List ℕ) → gives g k out topic ≡ true → asked k out topic ≡ g

@@ -27,7 +27,3 @@ anyGives (g ∷ gs) k out topic = gives g k out topic || anyGives gs k out topic
 -- turn within 1 to the count before anybody asks, and a grant names only modules (`rights-good` of proofs/SayingLaws.antt).
 unfoldable pub granted : List Right → ℕ → Bool → List ℕ → Bool
 granted gs k out topic = (out && coreTopic topic) || anyGives gs k out topic
-
--- the grant that a question asks for
-abbrev pub asked : ℕ → Bool → List ℕ → Right
-asked k out topic = record { holder = k; out = out; topic = topic }

@@ -83,6 +83,6 @@ upTo (suc n) s x h e =
     from-first s x e
     (upTo n (closed (holding s (before 10 x)) .stand) (drop (suc (length (before 10 x))) x) (rw (length-drop (suc (length (before 10 x))) x) (omega arith)) (closed-held (holding s (before 10 x))))
 
--- "one line in, its lines out": a whole input is answered line by line
+-- a whole input is answered line by line
 pub lines-answered : (s : Stand) (x : List ℕ) → s .held ≡ [] → heard s x ≡ lineByLine s (lines x)
 lines-answered s x e = upTo (length x) s x (omega arith) e

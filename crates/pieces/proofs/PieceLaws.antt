@@ -12,7 +12,7 @@ use lib.Seq.{take-all, take-nil, length-take-le}
 use borrow.Author.Tests.{le-ltb, lt-ltb, leb-true, leb-false, ltb-true, ltb-false}
 use Rattle.le.proofs.TestLaws.{Tested, tested, passes, fails}
 use Rattle.text.specs.Lines.{before}
-use Rattle.card.specs.Records.{joined}
+use Rattle.card.proofs.RecordsLaws.{joined}
 use Rattle.pieces.specs.Feeding.{Stand, standAs, Heard, quiet, followed, holding, closed, fed, fedAll, oneLine, Read, ReadAll}
 
 pub followed-assoc : (a b d : Heard) → followed a (followed b d) ≡ followed (followed a b) d

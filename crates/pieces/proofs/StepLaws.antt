@@ -11,7 +11,7 @@ use lib.ListN.{length, take, drop, length-append, length-take, length-drop, take
 use lib.Seq.{take-all, length-take-le, take-append-seam, drop-drop}
 use borrow.Author.Tests.{le-ltb, lt-ltb, leb-true, leb-false, ltb-true, ltb-false}
 use Rattle.le.specs.Splice.{splice}
-use Rattle.le.proofs.SpliceLaws.{take-splice-end}
+use Rattle.le.proofs.SpliceLaws.{take-splice-end, laid-clipped}
 use Rattle.le.proofs.TestLaws.{Tested, tested, passes, fails, and-left, and-right}
 use Rattle.text.specs.Lines.{before}
 use Rattle.script.specs.Words.{badWord}
@@ -19,7 +19,6 @@ use Rattle.script.specs.Saying.{Put, behind, printed, answerText, saidBad}
 use Rattle.script.specs.Gathering.{more, heldWith, gathered}
 use Rattle.script.specs.declared.gather.Gathered.{Gathered}
 use Rattle.script.proofs.SayLaws.{put-none, put-then, digits-most}
-use Rattle.script.proofs.LayLaws.{laid-clipped}
 use Rattle.session.specs.declared.Phase.{Phase}
 use Rattle.session.specs.declared.Phase.the-variants.{Listing, Overfull, Playing, Over}
 use Rattle.session.specs.declared.Session.{Session}

@@ -1,4 +1,4 @@
--- Input that comes in pieces, and its lines answered: "one line in and its lines out", whatever the pieces are.
+-- Input that comes in pieces, and its lines answered one by one, whatever the pieces are.
 -- Assumes nothing.
 use mathlib.Core.Path.{_≡_}
 use mathlib.Core.Bool.{Bool, true, not, _&&_, _||_, cond}

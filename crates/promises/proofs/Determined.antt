@@ -59,6 +59,7 @@ pub record LeOnce : Type 0 where
   pub put-u32-s : SeenOnce le.put_u32.Kinds.ps le.put_u32.Kinds.r le.put_u32.Reads.Learnt (λ κs z s. now (s .0))
   pub put-u64-s : SeenOnce le.put_u64.Kinds.ps le.put_u64.Kinds.r le.put_u64.Reads.Learnt (λ κs z s. now (s .0))
   pub copy-at-dst : SeenOnce le.copy_at.Kinds.ps le.copy_at.Kinds.r le.copy_at.Reads.Learnt (λ κs z s. now (s .1 .0))
+  pub lay-dst : SeenOnce le.lay.Kinds.ps le.lay.Kinds.r le.lay.Reads.Learnt (λ κs z s. now (s .1 .0))
   pub copy-part-dst : SeenOnce le.copy_part.Kinds.ps le.copy_part.Kinds.r le.copy_part.Reads.Learnt (λ κs z s. now (s .1 .1 .1 .0))
   pub zero-range-dst : SeenOnce le.zero_range.Kinds.ps le.zero_range.Kinds.r le.zero_range.Reads.Learnt (λ κs z s. now (s .0))
   pub zero-between : ResultOnce le.zero_between.Kinds.ps le.zero_between.Kinds.r le.zero_between.Reads.Learnt
@@ -209,7 +210,6 @@ weave-once = search met
 pub record TakesOnce : Type 0 where
   pub begun-begun : ResultOnce takes.begun.begun.Kinds.ps takes.begun.begun.Kinds.r takes.begun.begun.Reads.Learnt
   pub buffers-clear-if-s : SeenOnce takes.buffers.clear_if.Kinds.ps takes.buffers.clear_if.Kinds.r takes.buffers.clear_if.Reads.Learnt (λ κs z s. now (s .1 .0))
-  pub buffers-lay-dst : SeenOnce takes.buffers.lay.Kinds.ps takes.buffers.lay.Kinds.r takes.buffers.lay.Reads.Learnt (λ κs z s. now (s .1 .1 .0))
   pub opening-opening : ResultOnce takes.opening.opening.Kinds.ps takes.opening.opening.Kinds.r takes.opening.opening.Reads.Learnt
   pub page-page-code : ResultOnce takes.page.page_code.Kinds.ps takes.page.page_code.Kinds.r takes.page.page_code.Reads.Learnt
   pub page-page-bytes : ResultOnce takes.page.page_bytes.Kinds.ps takes.page.page_bytes.Kinds.r takes.page.page_bytes.Reads.Learnt

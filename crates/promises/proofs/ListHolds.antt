@@ -13,8 +13,9 @@ use Rattle.le.proofs.TestLaws.{and-left, and-right, and-both}
 use Rattle.text.specs.Compare.{prefixOf}
 use Rattle.record.specs.Record.{idOf, topicOf}
 use Rattle.card.specs.Pick.{All, only}
-use Rattle.card.specs.Listing.{filterOf, listed, turn, listOf, Rising, Before}
+use Rattle.card.specs.Listing.{filterOf, listed, turn, listOf, Before}
 use Rattle.card.specs.declared.Cursor.{Cursor}
+use Rattle.card.proofs.RecordsLaws.{Rising}
 use Rattle.card.proofs.ListingLaws.{listed-all, listed-every, sorted-turn}
 use Rattle.card.proofs.PickLaws.{all-map, all-only, all-reverse, mem-only, mem-reverse, only-passes, sorted-only}
 use Rattle.promises.specs.Turn.{Allowed, ListedOf}

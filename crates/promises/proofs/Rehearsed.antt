@@ -29,7 +29,6 @@ pub record ScriptOnce : Type 0 where
   pub line-read : ResultOnce script.forms.Line.read.Kinds.ps script.forms.Line.read.Kinds.r script.forms.Line.read.Reads.Learnt
   pub gather-gather : ResultOnce script.gather.gather.Kinds.ps script.gather.gather.Kinds.r script.gather.gather.Reads.Learnt
   pub gather-gather-line : SeenOnce script.gather.gather.Kinds.ps script.gather.gather.Kinds.r script.gather.gather.Reads.Learnt (λ κs z s. now (s .1 .1 .0))
-  pub laying-lay-dst : SeenOnce script.laying.lay.Kinds.ps script.laying.lay.Kinds.r script.laying.lay.Reads.Learnt (λ κs z s. now (s .1 .0))
   pub laying-begin-args : ResultOnce script.laying.begin_args.Kinds.ps script.laying.begin_args.Kinds.r script.laying.begin_args.Reads.Learnt
   pub laying-lay-write-memory : SeenOnce script.laying.lay_write.Kinds.ps script.laying.lay_write.Kinds.r script.laying.lay_write.Reads.Learnt (λ κs z s. now (s .0))
   pub laying-lay-open-memory : SeenOnce script.laying.lay_open.Kinds.ps script.laying.lay_open.Kinds.r script.laying.lay_open.Reads.Learnt (λ κs z s. now (s .0))
@@ -55,7 +54,6 @@ script-once = record {
   line-read = search meet;
   gather-gather = search meet-0;
   gather-gather-line = search meet-1;
-  laying-lay-dst = search meet;
   laying-begin-args = search meet;
   laying-lay-write-memory = search meet;
   laying-lay-open-memory = search meet;

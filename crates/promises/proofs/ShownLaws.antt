@@ -14,8 +14,8 @@ use Rattle.le.proofs.SpliceLaws.{take-splice, drop-splice, part-before, part-ri
 use Rattle.le.proofs.TestLaws.{Tested, passes, fails, tested}
 use Rattle.text.specs.Flags.{isValue}
 use Rattle.text.proofs.SizeLaws.{up8-above}
-use Rattle.value.specs.Shown.{pointed, shownAt, shownValue}
-use Rattle.value.proofs.ShownLaws.{length-shownAt, shown-moved, shown-plain}
+use Rattle.value.specs.Shown.{pointed, shownAt}
+use Rattle.value.proofs.ShownLaws.{shownValue, length-shownAt, shown-moved, shown-plain}
 use Rattle.record.specs.Record.{flagsOf, topicLenOf, dataLenOf, topicOf, payloadAt, payloadOf}
 use Rattle.record.specs.Shown.{shown, shownFrom, Framed}
 use Rattle.record.proofs.ShownLaws.{length-shown}

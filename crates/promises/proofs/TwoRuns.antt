@@ -21,11 +21,11 @@ use Rattle.manifest.specs.Saying.{mayRead}
 use Rattle.record.specs.Record.{idOf, topicOf}
 use Rattle.record.specs.Written.{Written}
 use Rattle.card.specs.Pick.{only}
-use Rattle.card.specs.Listing.{listed, turn, listOf, fit, pageOf, unfit, advance}
+use Rattle.card.specs.Listing.{listed, turn, listOf, fit, pageOf, advance}
 use Rattle.card.specs.declared.Page.the-variants.{End, Bytes as Sized}
 use Rattle.card.specs.Records.{upTo, records}
 use Rattle.card.specs.declared.Cursor.{Cursor}
-use Rattle.card.proofs.ListingLaws.{fit-lists}
+use Rattle.card.proofs.ListingLaws.{unfit, fit-lists}
 use Rattle.weave.specs.Args.{recordFine, fieldAt, writeArgs, openArgs}
 use Rattle.weave.specs.declared.Code.the-variants.{Fine}
 use Rattle.weave.specs.Codes.{isFine}

@@ -3,8 +3,8 @@
 use mathlib.Core.Path.{_≡_, refl, ap, sym, _∙_, subst}
 use mathlib.Core.Bool.{Bool, true, false}
 use mathlib.Core.List.{List, [], _∷_}
-use Prim.Native.Nat.{ℕ, zero, suc, _-_, _≤_}
-use native.Mathlib.Nat.{zero-add, not-suc-le-zero}
+use Prim.Native.Nat.{ℕ, _-_, _≤_}
+use native.Mathlib.Nat.{not-suc-le-zero}
 use native.Mathlib.Omega.{arith}
 use lib.Dec.{leb}
 use lib.IntN.{ℤ, pos, negsuc, _-ℤ_}
@@ -15,6 +15,7 @@ use mir.Facts.{toZ-pos, toZ-ofZ}
 use borrow.Author.Tests.{leb-true}
 use Rattle.le.proofs.TestLaws.{and-left, and-right}
 use Rattle.text.specs.Decimal.{numberOf}
+use Rattle.value.proofs.Signs.{below-minus-one}
 use Rattle.script.specs.Forms.{isNumber, valueOf, minus, unsigned, inRange, goodCode, signed, codeOf}
 
 pub minus-none : (f : List ℕ) → length f ≤ 0 → false ≡ minus f
@@ -37,10 +38,6 @@ most-above true n e h = let z : _≡_ {A = ℕ} 0 1 = cc in absurd (omega arith)
 most-above false n e h = leb-true n 9223372036854775807 e
 
 -- ---- signs
-
-below-minus-one : (m : ℕ) → negsuc 0 -ℤ pos m ≡ negsuc m
-below-minus-one zero = refl
-below-minus-one (suc m) = ap (λ (k : ℕ). negsuc (suc k)) (zero-add m)
 
 pub minus-is : (t : Bool) (n : ℕ) → inRange t n ≡ true → t ≡ true → negsuc 0 -ℤ toZ w64 (n - 1) ≡ signed t n
 minus-is t n e h =

@@ -1,34 +1,16 @@
 -- Arguments laid over a memory.
 -- Assumes nothing.
-use mathlib.Core.Path.{_≡_, refl, ap, _∙_}
+use mathlib.Core.Path.{_≡_, ap, _∙_}
 use mathlib.Core.List.{List, [], _∷_, _++_, append-assoc, append-nil}
-use Prim.Native.Nat.{ℕ, zero, suc, _+_, _-_, _≤_}
-use native.Mathlib.Nat.{sub-zero, suc-sub-suc, not-suc-le-zero, le-of-suc-le-suc}
+use Prim.Native.Nat.{ℕ, _+_}
 use native.Mathlib.Omega.{arith}
-use lib.ListN.{length, take, length-append}
+use lib.ListN.{length, length-append}
 use Rattle.le.specs.Le.{leBytes}
 use Rattle.le.specs.Splice.{splice}
 use Rattle.le.proofs.LeLaws.{length-leBytes}
 use Rattle.le.proofs.SpliceLaws.{splice-then}
 use Rattle.script.specs.Laying.{words, writeLaid, openLaid}
 use Rattle.script.specs.declared.forms.Window.{Window}
-
-pub laid-past : (xs : List ℕ) (at : ℕ) (ys : List ℕ) → length xs ≤ at → xs ≡ splice xs at ys
-unfolding splice
-laid-past [] at ys h = refl
-laid-past (x ∷ xs) zero ys h = absurd (not-suc-le-zero h)
-laid-past (x ∷ xs) (suc at) ys h = ap (λ (r : List ℕ). x ∷ r) (laid-past xs at ys (le-of-suc-le-suc h))
-
-splice-clip : (xs : List ℕ) (at : ℕ) (ys : List ℕ) → splice xs at (take (length xs - at) ys) ≡ splice xs at ys
-unfolding splice
-splice-clip [] at ys = refl
-splice-clip (x ∷ xs) zero [] = rw sub-zero
-splice-clip (x ∷ xs) zero (y ∷ ys) = rw sub-zero (ap (λ (r : List ℕ). y ∷ r) (rw sub-zero at (splice-clip xs zero ys)))
-splice-clip (x ∷ xs) (suc at) ys = rw suc-sub-suc (ap (λ (r : List ℕ). x ∷ r) (splice-clip xs at ys))
-
--- what would lie past the end is lost
-pub laid-clipped : (xs : List ℕ) (at : ℕ) (ys q r : List ℕ) → q ≡ take (length xs - at) ys → r ≡ splice xs at q → r ≡ splice xs at ys
-laid-clipped xs at ys q r qe re = re ∙ ap (splice xs at) qe ∙ splice-clip xs at ys
 
 -- ---- numbers of 8 bytes
 

@@ -35,7 +35,7 @@ valueAt k s = valueOf (numberOf (field k s))
 unfoldable pub formed : List ℕ → ℕ → List ℕ → Bool
 formed word n s = sameBytes (field 0 s) word && eqb (length (fields s)) n
 
--- ---- a return's code: "a code may have a minus sign, -2^63 to 2^63 - 1, no `-0`" (R2)
+-- ---- "Only a return's code may be negative: -2^63 to 2^63 - 1, but not `-0`" (R2)
 
 -- it begins with `-`
 unfoldable pub minus : List ℕ → Bool

@@ -3,7 +3,6 @@ ghost use mathlib.Core.Path.{_≡_};
 ghost use Rattle.le.specs.Splice.{splice};
 ghost use Rattle.script.specs.Gathering.{more, heldWith, gathered};
 use crate::Buffer;
-use crate::laying::lay;
 use text::lines::find;
 
 pub struct Gathered {
@@ -40,7 +39,7 @@ pub fn gather(piece: &[u8], at: usize, line: &mut Buffer, held: usize) -> Gather
         };
     }
     let end = find(piece, at, b'\n');
-    lay(le::cut(piece, at, end - at), line, held);
+    le::lay(le::cut(piece, at, end - at), line, held);
     let held = held_with(held, end - at);
     if end < piece.len() {
         return Gathered {

@@ -10,17 +10,6 @@ use crate::forms::Window;
 use record::VirtualTime;
 use weave::Weave;
 
-// All of src, laid over dst from `at` on, as much of it as there is room for.
-pub fn lay(src: &[u8], dst: &mut [u8], at: usize)
-    ensures { λ _. ⌜ now (dst .exit) ≡ splice (now (dst .entry)) at (now (src .entry)) ⌝ }
-{
-    if dst.len() <= at {
-        return;
-    }
-    let room = dst.len() - at;
-    le::copy_at(le::front(src, room), dst, at);
-}
-
 fn put_three(m: &mut [u8], at: usize, a: u64, b: u64, c: u64)
     requires { ⌜ at + 24 ≤ length (now m) ⌝ }
     ensures { λ _. ⌜ now (m .exit) ≡ splice (now (m .entry)) at (words (a ∷ b ∷ c ∷ [])) ⌝ }
@@ -46,8 +35,8 @@ pub fn lay_write(memory: &mut Buffer, topic: &[u8], payload: &[u8])
     let behind = 56 + topic.len();
     put_three(memory, 8, 56, topic.len() as u64, behind as u64);
     put_three(memory, 32, payload.len() as u64, 1, 0);
-    lay(topic, memory, 56);
-    lay(payload, memory, behind);
+    le::lay(topic, memory, 56);
+    le::lay(payload, memory, behind);
 }
 
 pub fn lay_open(memory: &mut Buffer, filter: &[u8], w: Window)
@@ -55,7 +44,7 @@ pub fn lay_open(memory: &mut Buffer, filter: &[u8], w: Window)
 {
     put_three(memory, 8, 56, filter.len() as u64, w.from.0);
     put_three(memory, 32, w.to.0, w.limit, w.desc);
-    lay(filter, memory, 56);
+    le::lay(filter, memory, 56);
 }
 
 pub fn lay_next(memory: &mut Buffer, handle: u64, cap: u64)

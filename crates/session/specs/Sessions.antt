@@ -133,7 +133,7 @@ inPhase Over s b line = record { next = s; buffers = b; said = [] }
 unfoldable pub answered : Session → Buffers → List ℕ → Answered
 answered s b line = inPhase (s .phase) s b line
 
--- the end of the input: "`bad` with the number of the line after the last, where `go` should stand" (R5)
+-- the end of the input: "Without `go` there is no mount. The program prints `bad` and the number of lines plus 1" (R5)
 unfoldable pub endIn : Phase → Session → List ℕ
 endIn Listing s = saidBad (counted s)
 endIn Overfull s = saidBad (counted s)

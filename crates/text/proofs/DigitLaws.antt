@@ -1,7 +1,7 @@
 -- Numbers written in decimal: the laws of `digitsIn` and `higher` for the loops that write, and `read-back`: what is written is read as the same number.
 -- Assumes nothing.
 use mathlib.Core.Path.{_≡_, refl, sym, ap, _∙_}
-use mathlib.Core.Bool.{Bool, true, false, _&&_, _||_, cond}
+use mathlib.Core.Bool.{Bool, true, false, _&&_, cond, or-true}
 use mathlib.Core.List.{List, [], _∷_, _++_}
 use Prim.Native.Nat.{ℕ, zero, suc, _+_, _-_, _*_, _/_, _%_, _^_, _≤_, _<_}
 use native.Mathlib.Nat.{pow-suc}
@@ -160,10 +160,6 @@ decimal-leads (suc m) h =
     let head : eqb (getD (digitsIn (suc k) (suc m)) 0 0) 48 ≡ false =
     ne-eqb (getD (digitsIn (suc k) (suc m)) 0 0) 48 (first-digit k (suc m) (no-higher 19 (suc m) (omega arith)) (high-enough 19 (suc m) h)) in
     rw (head, le-leb 1 (length (digitsIn (suc k) (suc m))) (omega (arith, length-digits (suc k) (suc m)))) (or-true (eqb (length (digitsIn (suc k) (suc m))) 1))
-  where
-    or-true : (b : Bool) → b || true ≡ true
-    or-true true = refl
-    or-true false = refl
 
 pub read-back : (n : ℕ) → n ≤ 0xFFFF_FFFF_FFFF_FFFF → numberOf (decimal n) ≡ Is n
 unfolding numberOf numberFrom decimal

@@ -1,4 +1,5 @@
-// 01, "Sizes", but for those of a record, which belong to `Header`.
+// The sizes of what is lent, of a manifest, of topics and of filters: 01, "Sizes", and for the grants "The manifest". A record's belong to `Header`, those of
+// open cursors to `Cursor`, those of arguments to `Weave` and to each argument record.
 pub struct Limits {}
 
 // Where a size may be from one number to another, the first is the `LEAST_`.

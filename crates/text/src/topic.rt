@@ -26,7 +26,7 @@ fn plain_front(s: &[u8]) -> usize
     let mut i = 0;
     while 8 <= s.len() - i {
         let eight = le::read_u64(s, i);
-        // A byte above 127 has the highest bit. One below 32 has it not where 96 is added.
+        // A byte above 127 has the highest bit. Add 96 to a byte below 32, and its highest bit is still 0.
         if eight & 0x8080_8080_8080_8080 != 0 {
             return i;
         }

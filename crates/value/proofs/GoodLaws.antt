@@ -11,7 +11,7 @@ use lib.ListN.{length}
 use Rattle.le.specs.Splice.{part, allZero}
 use Rattle.le.proofs.SpliceLaws.{part-none, part-add, part-whole, part-behind}
 use Rattle.le.specs.Le.{Bytes}
-use Rattle.le.proofs.TestLaws.{and-left, and-right}
+use Rattle.le.proofs.TestLaws.{and-left, and-right, bool-same}
 use Rattle.text.specs.Compare.{sameBytes}
 use Rattle.text.proofs.CompareLaws.{same-true, same-refl}
 use Rattle.value.specs.declared.cell.Cell.{Cell}
@@ -84,15 +84,10 @@ payload-good m p h f =
 
 -- ---- how the code finds out
 
--- a test that cannot pass; and two tests, each of which has the other pass
+-- a test that cannot pass
 never : (x : Bool) → (x ≡ true → ⊥) → false ≡ x
 never true h = absurd (h refl)
 never false h = refl
-
-agree : (x y : Bool) → (x ≡ true → y ≡ true) → (y ≡ true → x ≡ true) → x ≡ y
-agree true y p q = sym (p refl)
-agree false true p q = q refl
-agree false false p q = refl
 
 same-cell : (a : Cell) → sameCell a a ≡ true
 unfolding sameCell
@@ -169,7 +164,7 @@ module _ (b : List ℕ) (h : Bytes b) (l : 32 ≤ length b) (c : Cell) (v : Valu
     pub good-rest : k .len ≡ length b → s ≡ true → (z : Bool) → z ≡ allZero (part 24 8 b) → z ≡ goodStored b
     unfolding formOf checkedOf
     good-rest n q z ez =
-        agree z (goodStored b)
+        bool-same z (goodStored b)
         (λ t.
         let c₀ = cellAt b 0 in
         let v₀ = decoded c₀ in

@@ -20,7 +20,7 @@ use Rattle.value.specs.Cells.{cellAt}
 use Rattle.value.specs.Scalars.{kindOf}
 use Rattle.value.specs.Values.{decoded, contentOf, contentLen, faultOf, valueFault}
 use Rattle.value.specs.Forms.{cellOf, formOf, payload, goodStored}
-use Rattle.value.specs.Shown.{Handed, pointed, shownValue}
+use Rattle.value.specs.Shown.{Handed, pointed}
 use Rattle.value.proofs.CellLaws.{of, read-fits, cell-there}
 use Rattle.value.proofs.DecodeLaws.{Read, plain, text, array, wrong, reads}
 use Rattle.value.proofs.ScalarLaws.{kind-lt}
@@ -28,7 +28,7 @@ use Rattle.value.proofs.FaultLaws.{inside-is}
 use Rattle.value.proofs.FormLaws.{form-long}
 use Rattle.value.proofs.MovedLaws.{moved}
 use Rattle.value.proofs.GoodLaws.{good-is, good-kept, content-there}
-use Rattle.value.proofs.ShownLaws.{length-shownAt, shown-after, shown-plain, shown-moved}
+use Rattle.value.proofs.ShownLaws.{shownValue, length-shownAt, shown-after, shown-plain, shown-moved}
 
 -- ---- the 32 bytes where they stand
 

@@ -1,10 +1,10 @@
--- `script::laying::lay` meets its contract. Assumes nothing.
+-- `le::lay` meets its contract. Assumes nothing.
 use native.Mathlib.Omega.{arith}
 use lib.ListN.{length-take}
-use Rattle.script.proofs.LayLaws.{laid-past, laid-clipped}
+use Rattle.le.proofs.SpliceLaws.{laid-past, laid-clipped}
 use borrow.Author.Needs.{needs}
-use Rattle.script.proofs.laying.lay.Statement.{statement}
-use Rattle.script.proofs.laying.lay.Tie as tie
+use Rattle.le.proofs.lay.Statement.{statement}
+use Rattle.le.proofs.lay.Tie as tie
 
 returns : tie.Need-returns
 returns c = laid-past _ _ _ (c .if1 .taken)
