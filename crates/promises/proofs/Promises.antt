@@ -1,4 +1,4 @@
--- THE PROMISES, each in one place and in the user's order. What they speak of is in specs/: Box, Checks, Mounting, Refusal, Accepted, Outcome, Diary, ReadBack, Turn,
+-- THE PROMISES, each in one place and in the user's order. What they speak of is in specs/: Box, Checks, Mounting, Refusal, Accepted, Outcome, Diary, Standing, ReadBack, Turn,
 -- TwoWeaves. That they are about the code is ContractsHold.antt; that they do not hold because nothing happens is the last part.
 -- Assumes nothing.
 use mathlib.Core.Path.{_≡_, refl, ap}
@@ -38,6 +38,7 @@ use Rattle.promises.specs.Mounting.{mountChecks, StateOf, noLengths}
 use Rattle.promises.specs.Accepted.{Lawful, BeginMay, IngressMay, WriteMay, ReadMay, OpenMay, NextMay, CloseMay}
 use Rattle.promises.specs.Outcome.{Conditions, InNumbers, Unhindered, moduleCount, Reason, nextTurn, returnsIn, RunsOn, SameCard, saysCommitted, NoneCommitted, Appended, butFaulted, PanicLeft, Begun, SameWeave}
 use Rattle.promises.specs.Diary.{Diary, answerOf, ingressRecord, writtenRecord, firstPage, diary, Agrees}
+use Rattle.promises.specs.Standing.{idle, standing, Stands}
 use Rattle.promises.specs.Turn.{InTurn, handedOver, listLeft, FirstPart, Nexts, Allowed, ListedOf, AskedBy}
 use Rattle.promises.specs.ReadBack.{HasPage, ReadOf}
 use Rattle.promises.specs.TwoWeaves.{saidOver, twoModules, theCalls, theAnswers}
@@ -59,6 +60,7 @@ use Rattle.promises.proofs.AskedHolds.{asked-by, panic-left, codes-are,
 use Rattle.promises.proofs.ReadBackHolds.{write-reads-back, ingress-reads-back, kept-found, staged-found, page-stands, read-page-stands}
 use Rattle.promises.proofs.ReadHolds.{read-lists, read-zero}
 use Rattle.promises.proofs.TidyHolds.{life-tidy}
+use Rattle.promises.proofs.StandingHolds.{life-stands}
 use Rattle.promises.proofs.PagesHold.{open-lists, first-part, end-exactly, drained}
 use Rattle.promises.proofs.ListHolds.{all-allowed, every-allowed, within-limit, all-listed}
 use Rattle.promises.proofs.CommitRuns.{oneModule, commits-one}
@@ -218,6 +220,12 @@ a-weave-keeps-what-begin-set = weave-stays
 pub the-box-keeps-its-diary : (l : Lent) (used : ℕ) (os : List Op) → All (λ (o : Op). Bytes (memoryOf o)) os → mounted l used .code ≡ Fine
     → Agrees (run (mountedAs l used) os) (diary (mountedAs l used) (firstPage l used) os)
 the-box-keeps-its-diary = life-agrees
+
+-- .. and what else a listener knows without looking into it: whether a weave runs, its mark, whether the process is faulted, how many cursors the weave has
+-- opened and which are open. A handle is open exactly when an open answered it, no close took it and its turn goes on; an open finds room exactly when fewer
+-- than 4 are open and fewer than 65,535 have been opened. (After any mount, and with anything lent.)
+pub the-box-stands-as-heard : (l : Lent) (used : ℕ) (os : List Op) → Stands (run (mountedAs l used) os) (standing (mountedAs l used) (idle false) os)
+the-box-stands-as-heard = life-stands
 
 -- and check 1 passes after any calls: none of them leaves a box that the next refuses with -5 for its state
 pub check-1-passes-over-a-life : (l : Lent) (used : ℕ) (os : List Op) → All (λ (o : Op). Bytes (memoryOf o)) os → mounted l used .code ≡ Fine

@@ -6,10 +6,17 @@ use mathlib.Core.List.{List, [], _∷_}
 use Prim.Native.Nat.{ℕ, zero, suc, _+_, _≤_, _<_}
 use native.Mathlib.Omega.{arith}
 use native.Mathlib.Nat.{not-suc-le-zero, le-of-suc-le-suc}
+use lib.Dec.{ltb}
 use lib.ListN.{length, getD, set, replicate}
 use Rattle.le.proofs.TestLaws.{Tested, passes, fails, tested}
 use Rattle.card.specs.Pick.{only}
 use Rattle.weave.specs.Table.{slotPlace}
+use Rattle.weave.proofs.SumLaws.{leb-same}
+
+-- a test as a number
+abbrev pub one : Bool → ℕ
+one true = 1
+one false = 0
 
 module _ {A : Type 0} (p : A → Bool) (d : A) where
   -- ---- how many pass
@@ -74,6 +81,19 @@ module _ {A : Type 0} (p : A → Bool) (d : A) where
       go (passes q) ih = rw (many-pass x (set xs i y) q, many-pass x xs q) (omega arith)
       go (fails q) ih = rw (many-fail x (set xs i y) q, many-fail x xs q) ih
 
+  -- how many pass after one was stored, to a hair
+  pub many-first : (x : A) (xs : List A) → many (x ∷ xs) ≡ one (p x) + many xs
+  many-first x xs = go (tested (p x))
+    where
+      go : Tested (p x) → many (x ∷ xs) ≡ one (p x) + many xs
+      go (passes e) = rw e (omega (arith, many-pass x xs e))
+      go (fails e) = rw e (omega (arith, many-fail x xs e))
+
+  pub stored-many : (xs : List A) (i : ℕ) (y : A) → i < length xs → many (set xs i y) + one (p (getD xs i d)) ≡ many xs + one (p y)
+  stored-many [] i y h = absurd (not-suc-le-zero h)
+  stored-many (x ∷ xs) zero y h = omega (arith, many-first x xs, many-first y xs)
+  stored-many (x ∷ xs) (suc i) y h = omega (arith, stored-many xs i y (le-of-suc-le-suc h), many-first x xs, many-first x (set xs i y))
+
   -- ---- where the first is that passes
 
   place-pass : (x : A) (xs : List A) → p x ≡ true → slotPlace p (x ∷ xs) ≡ 0
@@ -93,6 +113,23 @@ module _ {A : Type 0} (p : A → Bool) (d : A) where
       go : Tested (p x) → (many xs ≡ 0 → length xs ≤ slotPlace p xs) → suc (length xs) ≤ slotPlace p (x ∷ xs)
       go (passes q) ih = absurd (omega (arith, many-pass x xs q))
       go (fails q) ih = rw (place-fail x xs q) (omega (arith, ih (sym (many-fail x xs q) ∙ e)))
+
+  -- one is found exactly when one passes
+  pub place-some : (xs : List A) → 1 ≤ many xs → slotPlace p xs < length xs
+  unfolding only
+  place-some [] h = absurd (not-suc-le-zero h)
+  place-some (x ∷ xs) h = go (tested (p x)) (place-some xs)
+    where
+      go : Tested (p x) → (1 ≤ many xs → slotPlace p xs < length xs) → slotPlace p (x ∷ xs) < suc (length xs)
+      go (passes q) ih = rw (place-pass x xs q) (omega arith)
+      go (fails q) ih = rw (place-fail x xs q) (omega (arith, ih (rw (many-fail x xs q) at h)))
+
+  pub found-exactly : (xs : List A) → ltb (slotPlace p xs) (length xs) ≡ ltb 0 (many xs)
+  found-exactly xs = leb-same (suc (slotPlace p xs)) (length xs) 1 (many xs) (λ h. go (many xs) refl h) (place-some xs)
+    where
+      go : (n : ℕ) → many xs ≡ n → slotPlace p xs < length xs → 1 ≤ many xs
+      go zero q h = absurd (omega (arith, place-none xs q))
+      go (suc n) q h = omega arith
 
   -- the one that is found passes
   pub place-passes : (xs : List A) → slotPlace p xs < length xs → p (getD xs (slotPlace p xs) d) ≡ true
