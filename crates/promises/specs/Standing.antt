@@ -13,7 +13,6 @@ use Rattle.weave.specs.declared.Spoiled.the-variants.{Not, Overspent, Panicked}
 use Rattle.weave.specs.Codes.{isBudget}
 use Rattle.weave.specs.Args.{closeHandle}
 use Rattle.weave.specs.Checks.{handleFine, slotFine}
-use Rattle.host.specs.declared.Fate.{Fate}
 use Rattle.host.specs.declared.Fate.the-variants.{Refused, Discarded, Running, Committed}
 use Rattle.writes.specs.Stage.{isPanic}
 use Rattle.promises.specs.Box.{World, Op, Begin, Ingress, Write, Read, Open, Next, Close, Return, LookUp, Said, Answered, Ended, Part, step, isRefused, codeOf}
