@@ -22,6 +22,7 @@ pub record Standing : Type 0 where
   pub running : Bool
   pub faulted : Bool
   pub mark : Spoiled
+  -- how many cursors the weave has opened, and the handles of those that are open
   pub opened : ℕ
   pub handles : List ℕ
 
@@ -31,7 +32,7 @@ idle faulted′ = record { running = false; faulted = faulted′; mark = Not; op
 
 -- ---- one call and its answer
 
--- begin: a weave runs that nothing was done in
+-- begin: a weave runs, unmarked, with no cursor
 abbrev pub started : Standing → Standing
 started s = record { running = true; faulted = s .faulted; mark = Not; opened = 0; handles = [] }
 
