@@ -1,5 +1,5 @@
--- THE PROMISES, each in one place and in the user's order. What they speak of is in specs/: Box, Checks, Mounting, Refusal, Accepted, Outcome, Diary, Standing, ReadBack, Turn,
--- TwoWeaves. That they are about the code is ContractsHold.antt; that they do not hold because nothing happens is the last part.
+-- THE PROMISES, each in one place and in the user's order. What they speak of is in specs/: Box, Checks, Mounting, Refusal, Accepted, Outcome, Diary, Standing,
+-- ReadBack, Turn, TwoWeaves. That they are about the code is ContractsHold.antt; that they do not hold because nothing happens is the last part.
 -- Assumes nothing.
 use mathlib.Core.Path.{_≡_, ap}
 use mathlib.Core.Bool.{Bool, true, false}
@@ -38,7 +38,7 @@ use Rattle.promises.specs.Mounting.{mountChecks, StateOf, noLengths}
 use Rattle.promises.specs.Accepted.{Lawful, BeginMay, IngressMay, WriteMay, ReadMay, OpenMay, NextMay, CloseMay}
 use Rattle.promises.specs.Outcome.{Conditions, InNumbers, Unhindered, moduleCount, Reason, nextTurn, returnsIn, RunsOn, SameCard, saysCommitted, NoneCommitted, Appended, butFaulted, PanicLeft, begunWith, SameWeave}
 use Rattle.promises.specs.Diary.{Diary, answerOf, ingressRecord, writtenRecord, firstPage, diary, Agrees}
-use Rattle.promises.specs.Standing.{idle, standing, Stands}
+use Rattle.promises.specs.Standing.{atMount, standing, Stands}
 use Rattle.promises.specs.Turn.{InTurn, handedOver, listLeft, FirstPart, Nexts, Allowed, ListedOf, AskedBy}
 use Rattle.promises.specs.ReadBack.{HasPage, ReadOf}
 use Rattle.promises.specs.TwoWeaves.{saidOver, twoModules, theCalls, theAnswers}
@@ -220,9 +220,9 @@ pub the-box-keeps-its-diary : (l : Lent) (used : ℕ) (os : List Op) → All (λ
 the-box-keeps-its-diary = life-agrees
 
 -- .. and what else a listener knows without looking into it: whether a weave runs, its mark, whether the process is faulted, how many cursors the weave has
--- opened and which are open. A handle is open exactly when an open answered it, no close took it and its turn goes on; an open finds room exactly when fewer
--- than 4 are open and fewer than 65,535 have been opened. (After any mount, and with anything lent.)
-pub the-box-stands-as-heard : (l : Lent) (used : ℕ) (os : List Op) → Stands (run (mountedAs l used) os) (standing (mountedAs l used) (idle false) os)
+-- opened and which are open. A handle is open exactly when an open of this turn answered it and no close took it; an open finds room exactly when fewer than 4
+-- are open and fewer than 65,535 have been opened. (After any mount, and with anything lent.)
+pub the-box-stands-as-heard : (l : Lent) (used : ℕ) (os : List Op) → Stands (run (mountedAs l used) os) (standing (mountedAs l used) atMount os)
 the-box-stands-as-heard = life-stands
 
 -- and check 1 passes after any calls: none of them leaves a box that the next refuses with -5 for its state

@@ -20,7 +20,7 @@ use Rattle.takes.specs.Begun.{begun}
 use Rattle.host.specs.Hosts.{Lent, withWeave}
 use Rattle.host.specs.Ending.{committed}
 use Rattle.promises.specs.Box.{World, Op, step, mountedAs, run}
-use Rattle.promises.specs.Standing.{Standing, idle, without, heard, standing, isAmong, Stands}
+use Rattle.promises.specs.Standing.{Standing, atMount, without, heard, standing, isAmong, Stands}
 use Rattle.promises.specs.Turn.{Tidy}
 use Rattle.promises.proofs.MountHolds.{mount-fresh, mount-healthy}
 use Rattle.promises.proofs.SlotLaws.{one, many, many-first, many-alike, stored-many, place-passes, found-exactly}
@@ -77,18 +77,22 @@ without-long k (j ∷ js) = go (tested (eqb j k)) (without-long k js)
 
 -- ---- a table that has just these handles
 
+-- how many slots have a handle
+abbrev having : ℕ → List Slot → ℕ
+having k slots = many (hasHandle k) freeSlot slots
+
 record Holds (slots : List Slot) (opened : ℕ) (js : List ℕ) : Type 0 where
   tidy : Tidy slots opened
-  each : (k : ℕ) → 1 ≤ k → many (hasHandle k) freeSlot slots ≡ often k js
+  each : (k : ℕ) → 1 ≤ k → having k slots ≡ often k js
   none : often 0 js ≡ 0
   -- the other rooms are free
-  free : many (hasHandle 0) freeSlot slots + length js ≡ 4
+  free : having 0 slots + length js ≡ 4
 
 holds-none : (n : ℕ) → Holds noSlots n []
 unfolding noSlots hasHandle freeSlot only
 holds-none n = record { tidy = tidy-none n; each = λ k h. many-alike (hasHandle k) freeSlot 4 freeSlot (free-handle k h); none = refl; free = refl }
 
--- what checks 9 ask
+-- what check 9 asks of a handle, and of room
 handles-are : (v : Weave) (js : List ℕ) → Holds (v .slots) (v .opened) js → (k : ℕ) → handleFine v k ≡ isAmong k js
 unfolding handleFine
 handles-are v js t zero = sym (among-often 0 js ∙ ap (λ (n : ℕ). ltb 0 n) (t .none))
@@ -107,19 +111,20 @@ room-is v js n t e = rw (free, e)
     free =
         ap (λ (i : ℕ). ltb (slotPlace (hasHandle 0) (v .slots)) i) (sym (t .tidy .four))
         ∙ found-exactly (hasHandle 0) freeSlot (v .slots)
-        ∙ leb-same 1 (many (hasHandle 0) freeSlot (v .slots)) (suc (length js)) 4 (λ h. omega (arith, t .free)) (λ h. omega (arith, t .free))
+        ∙ leb-same 1 (having 0 (v .slots)) (suc (length js)) 4 (λ h. omega (arith, t .free)) (λ h. omega (arith, t .free))
 
 -- a slot y is stored over the first with the handle k: how many have the handle j
 stored-over : (slots : List Slot) (k j : ℕ) (y : Slot) → slotPlace (hasHandle k) slots < length slots
-    → many (hasHandle j) freeSlot (set slots (slotPlace (hasHandle k) slots) y) + one (eqb k j) ≡ many (hasHandle j) freeSlot slots + one (eqb (y .handle) j)
+    → having j (set slots (slotPlace (hasHandle k) slots) y) + one (eqb k j) ≡ having j slots + one (eqb (y .handle) j)
 unfolding hasHandle
 stored-over slots k j y p =
-    ap (λ (n : ℕ). many (hasHandle j) freeSlot (set slots (slotPlace (hasHandle k) slots) y) + one (eqb n j)) (sym (handle-is k (getD slots (slotPlace (hasHandle k) slots) freeSlot) (place-passes (hasHandle k) freeSlot slots p)))
-    ∙ stored-many (hasHandle j) freeSlot slots (slotPlace (hasHandle k) slots) y p
+    let place = slotPlace (hasHandle k) slots in
+    let its : getD slots place freeSlot .handle ≡ k = handle-is k (getD slots place freeSlot) (place-passes (hasHandle k) freeSlot slots p) in
+    ap (λ (n : ℕ). having j (set slots place y) + one (eqb n j)) (sym its) ∙ stored-many (hasHandle j) freeSlot slots place y p
 
 -- .. and with a slot of the same handle as many as before
 stored-alike : (slots : List Slot) (k j : ℕ) (y : Slot) → y .handle ≡ k → slotPlace (hasHandle k) slots < length slots
-    → many (hasHandle j) freeSlot (set slots (slotPlace (hasHandle k) slots) y) ≡ many (hasHandle j) freeSlot slots
+    → having j (set slots (slotPlace (hasHandle k) slots) y) ≡ having j slots
 stored-alike slots k j y e p = omega (arith, stored-over slots k j y p, ap (λ (n : ℕ). one (eqb n j)) e)
 
 -- ---- what becomes of the cursors
@@ -153,7 +158,18 @@ module _ (w : World) (o : Op) (js : List ℕ) (t : Holds (w .host .weave .slots)
         tidy = cursors-tidy w o (Closes k f) (t .tidy);
         each = λ j h. go j h (tested (eqb k j));
         none = without-other 0 k not-0 js ∙ t .none;
-        free = omega (arith, stored-over (v .slots) k 0 freeSlot there, ap one not-0, t .free, without-long k js, t .each k least, t .tidy .once k least, gone k least, ap one (eq-eqb k k refl));
+        free =
+            omega (
+              arith,
+              stored-over (v .slots) k 0 freeSlot there,
+              ap one not-0,
+              t .free,
+              without-long k js,
+              t .each k least,
+              t .tidy .once k least,
+              gone k least,
+              ap one (eq-eqb k k refl),
+            );
       }
     where
       there : slotPlace (hasHandle k) (v .slots) < length (v .slots)
@@ -165,10 +181,10 @@ module _ (w : World) (o : Op) (js : List ℕ) (t : Holds (w .host .weave .slots)
       not-0 : eqb k 0 ≡ false
       not-0 = ne-eqb k 0 (λ q. omega (arith, least))
 
-      gone : (j : ℕ) → 1 ≤ j → many (hasHandle j) freeSlot (slotsAfter w o (Closes k f)) + one (eqb k j) ≡ many (hasHandle j) freeSlot (v .slots)
+      gone : (j : ℕ) → 1 ≤ j → having j (slotsAfter w o (Closes k f)) + one (eqb k j) ≡ having j (v .slots)
       gone j h = omega (arith, stored-over (v .slots) k j freeSlot there, ap one (ne-eqb 0 j (λ q. omega arith)))
 
-      go : (j : ℕ) → 1 ≤ j → Tested (eqb k j) → many (hasHandle j) freeSlot (slotsAfter w o (Closes k f)) ≡ often j (without k js)
+      go : (j : ℕ) → 1 ≤ j → Tested (eqb k j) → having j (slotsAfter w o (Closes k f)) ≡ often j (without k js)
       go j h (passes e) =
           omega (arith, gone j h, ap one e, t .tidy .once j h, ap (λ (i : ℕ). often j (without i js)) (eqb-true k j e), without-own j js)
       go j h (fails e) = omega (arith, gone j h, ap one e, t .each j h, without-other j k e js)
@@ -211,12 +227,12 @@ follows-run (o ∷ os) w s t =
     (rw (moved w o .world, moved w o .heard-as s) (follows-move w o (moved w o .move) s t))
 
 -- THE PROMISE: mounted, refused or not, and asked whatever may be asked, the box stands as it was heard
-pub life-stands : (l : Lent) (used : ℕ) (os : List Op) → Stands (run (mountedAs l used) os) (standing (mountedAs l used) (idle false) os)
+pub life-stands : (l : Lent) (used : ℕ) (os : List Op) → Stands (run (mountedAs l used) os) (standing (mountedAs l used) atMount os)
 unfolding freshWeave
 life-stands l used os =
     let w = run (mountedAs l used) os in
-    let s = standing (mountedAs l used) (idle false) os in
-    let t = follows-run os (mountedAs l used) (idle false) start in
+    let s = standing (mountedAs l used) atMount os in
+    let t = follows-run os (mountedAs l used) atMount start in
     record {
       running = t .running;
       faulted = t .faulted;
@@ -226,7 +242,7 @@ life-stands l used os =
       room = room-is (w .host .weave) (s .handles) (s .opened) (t .cursors) (t .opened);
     }
   where
-    start : Follows (mountedAs l used) (idle false)
+    start : Follows (mountedAs l used) atMount
     start = record {
       running = rw (mount-fresh l used);
       faulted = mount-healthy l used;

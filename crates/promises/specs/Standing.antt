@@ -26,9 +26,13 @@ pub record Standing : Type 0 where
   pub opened : ℕ
   pub handles : List ℕ
 
--- no weave runs, and nothing of one is left. At mount: "a fresh state"
+-- no weave runs, and nothing of one is left
 abbrev pub idle : Bool → Standing
 idle faulted′ = record { running = false; faulted = faulted′; mark = Not; opened = 0; handles = [] }
+
+-- mount, refused or not: "its state all 0", "a fresh state"
+abbrev pub atMount : Standing
+atMount = idle false
 
 -- ---- one call and its answer
 
