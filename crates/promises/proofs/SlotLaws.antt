@@ -18,6 +18,10 @@ abbrev pub one : Bool → ℕ
 one true = 1
 one false = 0
 
+one-most : (b : Bool) → one b ≤ 1
+one-most true = omega arith
+one-most false = omega arith
+
 module _ {A : Type 0} (p : A → Bool) (d : A) where
   -- ---- how many pass
 
@@ -57,16 +61,6 @@ module _ {A : Type 0} (p : A → Bool) (d : A) where
   stored-fewer (x ∷ xs) zero y e = rw (many-fail y xs e) (many-tail x xs)
   stored-fewer (x ∷ xs) (suc i) y e = many-cons x (set xs i y) xs (stored-fewer xs i y e)
 
-  -- storing one where one passed leaves no more
-  pub stored-same : (xs : List A) (i : ℕ) (y : A) → i < length xs → p (getD xs i d) ≡ true → many (set xs i y) ≤ many xs
-  stored-same [] i y h e = absurd (not-suc-le-zero h)
-  stored-same (x ∷ xs) zero y h e = go (tested (p y))
-    where
-      go : Tested (p y) → many (y ∷ xs) ≤ many (x ∷ xs)
-      go (passes q) = rw (many-pass y xs q, many-pass x xs e) (omega arith)
-      go (fails q) = rw (many-fail y xs q) (many-tail x xs)
-  stored-same (x ∷ xs) (suc i) y h e = many-cons x (set xs i y) xs (stored-same xs i y (le-of-suc-le-suc h) e)
-
   -- storing one leaves at most one more
   pub stored-more : (xs : List A) (i : ℕ) (y : A) → many (set xs i y) ≤ suc (many xs)
   stored-more [] i y = omega arith
@@ -93,6 +87,10 @@ module _ {A : Type 0} (p : A → Bool) (d : A) where
   stored-many [] i y h = absurd (not-suc-le-zero h)
   stored-many (x ∷ xs) zero y h = omega (arith, many-first x xs, many-first y xs)
   stored-many (x ∷ xs) (suc i) y h = omega (arith, stored-many xs i y (le-of-suc-le-suc h), many-first x xs, many-first x (set xs i y))
+
+  -- storing one where one passed leaves no more
+  pub stored-same : (xs : List A) (i : ℕ) (y : A) → i < length xs → p (getD xs i d) ≡ true → many (set xs i y) ≤ many xs
+  stored-same xs i y h e = omega (arith, stored-many xs i y h, ap one e, one-most (p y))
 
   -- ---- where the first is that passes
 
@@ -163,15 +161,7 @@ module _ {A : Type 0} (p : A → Bool) (d : A) where
 
     -- storing it over the one that is found: there is one fewer
     pub stored-gone : (xs : List A) → slotPlace p xs < length xs → many (set xs (slotPlace p xs) y) + 1 ≡ many xs
-    unfolding slotPlace
-    stored-gone [] h = absurd (not-suc-le-zero h)
-    stored-gone (x ∷ xs) h = go (tested (p x)) (stored-gone xs)
-      where
-        go : Tested (p x) → (slotPlace p xs < length xs → many (set xs (slotPlace p xs) y) + 1 ≡ many xs) → many (set (x ∷ xs) (slotPlace p (x ∷ xs)) y) + 1 ≡ many (x ∷ xs)
-        go (passes t) ih = rw (place-pass x xs t, many-fail y xs e, many-pass x xs t) (omega arith)
-        go (fails t) ih =
-            rw (place-fail x xs t, many-fail x (set xs (slotPlace p xs) y) t, many-fail x xs t)
-            (ih (le-of-suc-le-suc (rw (place-fail x xs t) at h)))
+    stored-gone xs h = omega (arith, stored-many xs (slotPlace p xs) y h, ap one (place-passes xs h), ap one e)
 
   -- storing one that passes over the one that is found
   module _ (y : A) (e : p y ≡ true) where
