@@ -56,14 +56,17 @@ module _ (w : World) where
       let long = length-take-le (h .weave .staged) (l .staging) (law .staged) in
       rw (q, c .1 .0, c .1 .1)
       (record {
+        lengths = refl;
         used = added-sum (h .used) (h .weave .staged) (h .lengths .card) (omega (arith, c .0 .fits, law .card-long));
         next = added-sum (h .next .0) (h .weave .count) (2 ^ 63) (law .numbers);
         bytes =
             ap (λ (n : ℕ). part (h .used) n (splice (l .card) (h .used) (take (h .weave .staged) (l .staging)))) (sym long)
             ∙ part-of-splice (l .card) (h .used) (take (h .weave .staged) (l .staging)) (omega (arith, long, c .0 .fits));
         others = laid-there (l .card) (h .used) (take (h .weave .staged) (l .staging)) (h .weave .staged) long;
+        faulted = refl;
         weave = refl;
         staging = refl;
+        text = refl;
       })
 
   -- THE PROMISE: where committed is said, exactly the staged bytes were appended

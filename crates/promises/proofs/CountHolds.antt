@@ -70,9 +70,10 @@ counted (o ∷ os) w r h =
 pub turn-counted : (w : World) (args : List ℕ) → isRefused (step w (Begin args) .said) ≡ false → (os : List Op) → RunsOn (step w (Begin args) .world) os
     → (run (step w (Begin args) .world) os .host .weave .turn ≡ 1 + returnsIn (step w (Begin args) .world) os)
     × (returnsIn (step w (Begin args) .world) os < moduleCount w)
+unfolding withWeave
 turn-counted w args e os r =
     let w₁ = step w (Begin args) .world in
-    let first = begin-sets w args e .turn in
+    let first : w₁ .host .weave .turn ≡ 1 = rw (begin-sets w args e) in
     let some = sized (w .lent .text) .some (lawful (w .lent) (w .host) (begin-exactly w args .0 e .check-1) .good) in
     let same : moduleCount w₁ ≡ moduleCount w = rw (text-kept w (Begin args)) in
     let c = counted os w₁ r (omega (arith, first, some, same)) in

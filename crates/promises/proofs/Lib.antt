@@ -21,6 +21,7 @@ pub mod ReadHolds
 pub mod SlotLaws
 pub mod TurnLaws
 pub mod TidyHolds
+pub mod StandingHolds
 pub mod TurnHolds
 pub mod PagesHold
 pub mod ListHolds

@@ -101,10 +101,16 @@ mount-fine l used e =
       state = mounts l used .fresh e;
     }
 
--- refused or not, no weave is running
-pub mount-fresh : (l : Lent) (used : ℕ) → mountedAs l used .host .weave ≡ freshWeave
-mount-fresh l used = go (isFine (mounted l used .code)) refl
+-- refused or not, no weave is running and the process is healthy
+mount-rests : (l : Lent) (used : ℕ) → (mountedAs l used .host .weave ≡ freshWeave) × (mountedAs l used .host .faulted ≡ false)
+mount-rests l used = go (isFine (mounted l used .code)) refl
   where
-    go : (t : Bool) → isFine (mounted l used .code) ≡ t → mountedAs l used .host .weave ≡ freshWeave
-    go true q = mounts l used .fresh (fine-is (mounted l used .code) q) .weave
-    go false q = mounts l used .zero q .weave
+    go : (t : Bool) → isFine (mounted l used .code) ≡ t → (mountedAs l used .host .weave ≡ freshWeave) × (mountedAs l used .host .faulted ≡ false)
+    go true q = let s = mounts l used .fresh (fine-is (mounted l used .code) q) in (s .weave, s .healthy)
+    go false q = let s = mounts l used .zero q in (s .weave, s .healthy)
+
+pub mount-fresh : (l : Lent) (used : ℕ) → mountedAs l used .host .weave ≡ freshWeave
+mount-fresh l used = mount-rests l used .0
+
+pub mount-healthy : (l : Lent) (used : ℕ) → mountedAs l used .host .faulted ≡ false
+mount-healthy l used = mount-rests l used .1

@@ -29,6 +29,7 @@ use Rattle.promises.specs.Box.{World, Op, step, isRefused, memoryOf, arg
 use Rattle.promises.specs.Refusal.{Unchanged}
 use Rattle.promises.specs.Outcome.{Conditions, saysCommitted, isReturned}
 use Rattle.promises.specs.Diary.{Diary, emptied, entered}
+use Rattle.promises.specs.Standing.{Standing, idle, started, without, heard}
 use Rattle.promises.specs.Turn.{InTurn, givenBy}
 use Rattle.promises.proofs.StagedLaws.{Stageable}
 
@@ -123,15 +124,16 @@ slotsAfter w o (Hands k room f) =
 slotsAfter w o (Closes k f) = set (w .host .weave .slots) (slotPlace (hasHandle k) (w .host .weave .slots)) freeSlot
 slotsAfter w o (Cleared i) = noSlots
 
-abbrev pub spoiledAfter : World → Marking → Spoiled
-spoiledAfter w Unmarked = w .host .weave .spoiled .0
-spoiledAfter w Overspends = Overspent
-spoiledAfter w Panics = Panicked
+-- the mark and the fault, those of the box and those that are heard alike
+abbrev pub markedBy : Marking → Spoiled → Spoiled
+markedBy Unmarked m = m
+markedBy Overspends m = Overspent
+markedBy Panics m = Panicked
 
-abbrev pub faultedAfter : World → Marking → Bool
-faultedAfter w Unmarked = w .host .faulted
-faultedAfter w Overspends = w .host .faulted
-faultedAfter w Panics = true
+abbrev pub faultedBy : Marking → Bool → Bool
+faultedBy Unmarked f = f
+faultedBy Overspends f = f
+faultedBy Panics f = true
 
 abbrev pub turnAfter : (w : World) (o : Op) → Turning w o → ℕ
 turnAfter w o Stays = w .host .weave .turn
@@ -142,7 +144,7 @@ abbrev pub weaveAfter : (w : World) (o : Op) → Change w o → Weave
 weaveAfter w o c =
     record {
       running = w .host .weave .running;
-      spoiled = record { 0 = spoiledAfter w (c .mark) };
+      spoiled = record { 0 = markedBy (c .mark) (w .host .weave .spoiled .0) };
       turn = turnAfter w o (c .turn);
       late = lateAfter w o (c .cost) (c .turn);
       staged = stagedAfter w o (c .staging);
@@ -164,6 +166,21 @@ abbrev pub unitsBy : (w : World) → Cost w → ℕ → ℕ
 unitsBy w Unpaid u = u
 unitsBy w Free u = u
 unitsBy w (Paid charge b) u = u + charge
+
+-- what is heard of the cursors
+abbrev pub openedBy : (w : World) (o : Op) → Cursors w o → ℕ → ℕ
+openedBy w o Same n = n
+openedBy w o (Opens s e f) n = n + 1
+openedBy w o (Hands k room f) n = n
+openedBy w o (Closes k f) n = n
+openedBy w o (Cleared i) n = n
+
+abbrev pub openBy : (w : World) (o : Op) → Cursors w o → List ℕ → List ℕ
+openBy w o Same hs = hs
+openBy w o (Opens s e f) hs = s .handle ∷ hs
+openBy w o (Hands k room f) hs = hs
+openBy w o (Closes k f) hs = without k hs
+openBy w o (Cleared i) hs = []
 
 -- what is handed over on the cursor j
 abbrev pub handedOn : ℕ → (w : World) (o : Op) → Cursors w o → List (List ℕ)
@@ -197,7 +214,7 @@ after w o (GoesOn r c) =
         lengths = w .host .lengths;
         used = w .host .used;
         next = w .host .next;
-        faulted = faultedAfter w (c .mark);
+        faulted = faultedBy (c .mark) (w .host .faulted);
         weave = weaveAfter w o c;
       };
       lent = lentAs (stagingAfter w o (c .staging)) (w .lent .card) (w .lent .text);
@@ -216,6 +233,20 @@ entryBy w o (Begins args i b) d = emptied d
 entryBy w o (GoesOn r c) d = record { kept = d .kept; staged = stagedBy w o (c .staging) (d .staged); units = unitsBy w (c .cost) (d .units) }
 entryBy w o (Commits i s code c) d = record { kept = d .kept ++ d .staged; staged = []; units = 0 }
 entryBy w o (Discards i) d = emptied d
+
+abbrev pub heardBy : (w : World) (o : Op) → Move w o → Standing → Standing
+heardBy w o Rests s = s
+heardBy w o (Begins args i b) s = started s
+heardBy w o (GoesOn r c) s =
+    record {
+      running = s .running;
+      faulted = faultedBy (c .mark) (s .faulted);
+      mark = markedBy (c .mark) (s .mark);
+      opened = openedBy w o (c .cursors) (s .opened);
+      handles = openBy w o (c .cursors) (s .handles);
+    }
+heardBy w o (Commits i s code c) t = idle (t .faulted)
+heardBy w o (Discards i) s = idle (s .faulted)
 
 abbrev pub handedBy : ℕ → (w : World) (o : Op) → Move w o → List (List ℕ)
 handedBy k w o Rests = []
@@ -237,6 +268,7 @@ pub record Moved (w : World) (o : Op) : Type 0 where
   pub move : Move w o
   pub world : step w o .world ≡ after w o move
   pub entry : Bytes (memoryOf o) → Traced w → (d : Diary) → entered w d o ≡ entryBy w o move d
+  pub heard-as : (s : Standing) → heard s o (step w o .said) ≡ heardBy w o move s
   pub given : (k : ℕ) → givenBy k w o ≡ handedBy k w o move
   pub returned : isReturned (step w o .said) ≡ endsTurn w o move
   -- promise 1, which is about what is said as well

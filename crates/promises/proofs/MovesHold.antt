@@ -28,16 +28,17 @@ use Rattle.writes.specs.Stage.{ingressCheck, ingressAnswer, ingressStaging, isP
 use Rattle.reads.specs.Reading.{readSound, readCheck, readAnswer, readMemory}
 use Rattle.host.specs.Cursors.{openCheck, openNext, openAnswer, closeCheck, closeNext, closeAnswer, nextHandle}
 use Rattle.reads.specs.Paging.{nextSound, nextCheck, nextHost, nextCursor, nextAnswer, nextMemory}
-use Rattle.host.specs.Ending.{fateOf, finished, returnAnswer, returnCard, returnStaging}
+use Rattle.host.specs.Ending.{returnCheck, fateOf, finished, returnAnswer, returnCard, returnStaging}
 use Rattle.promises.specs.Box.{World, Op, Begin, Ingress, Write, Read, Open, Next, Close, Return, LookUp, answered, step, isRefused, memoryOf}
 use Rattle.promises.specs.Checks.{Check, failing, lentAsked, gate, writeAsks, readAsks, openAsks, nextAsks, closeAsks, checksOf}
 use Rattle.promises.specs.Diary.{Diary, ingressRecord, writtenRecord, noted}
+use Rattle.promises.specs.Standing.{Standing, done}
 use Rattle.promises.specs.Turn.{pageOn, isNextOn}
 use Rattle.promises.proofs.OutcomeHolds.{Fated, turned-away, has-reason, turns-on, ends-badly, ends-well, fated, return-runs, conditions}
 use Rattle.promises.proofs.ChecksHold.{Comes, begin-code, ingress-code, write-code, read-code, open-code, next-code, close-code, return-code}
 use Rattle.promises.proofs.AcceptedHolds.{begin-exactly, ingress-exactly, write-exactly, read-exactly, open-exactly, next-exactly, close-exactly, next-page, read-page}
 use Rattle.promises.proofs.StagedLaws.{ingress-staged, write-staged}
-use Rattle.promises.proofs.MoveLaws.{Traced, called, Unpaid, Free, Paid, Kept, Staged, Same, Opens, Hands, Closes, Cleared, Unmarked, Overspends, Panics, Stays, Turns, Move, Rests, Begins, GoesOn, Commits, Discards, after, entryBy, handedBy, endsTurn, Moved}
+use Rattle.promises.proofs.MoveLaws.{Traced, called, Unpaid, Free, Paid, Kept, Staged, Same, Opens, Hands, Closes, Cleared, Unmarked, Overspends, Panics, Stays, Turns, Move, Rests, Begins, GoesOn, Commits, Discards, after, entryBy, heardBy, handedBy, endsTurn, Moved}
 
 -- ---- a -6 is said in a weave alone
 
@@ -70,6 +71,7 @@ record Accepted (w : World) (o : Op) : Type 0 where
   move : Move w o
   world : step w o .world ≡ after w o move
   entry : Bytes (memoryOf o) → Traced w → (d : Diary) → noted w d o ≡ entryBy w o move d
+  heard-as : (s : Standing) → done s o (step w o .said) ≡ heardBy w o move s
   given : (k : ℕ) → pageOn k w o ≡ handedBy k w o move
   stays : endsTurn w o move ≡ false
 
@@ -93,6 +95,7 @@ module _ (w : World) (o : Op) (c : Code) (v : ℕ) (next′ : Host) (staging′ 
             move = y .move;
             world = y .world;
             entry = λ b t d. rw said (y .entry b t d);
+            heard-as = λ s. rw said (y .heard-as s);
             given = λ k. rw said (y .given k);
             returned = rw is (sym (y .stays));
             refused = λ e. absurd (true≢false (sym e ∙ said));
@@ -101,6 +104,7 @@ module _ (w : World) (o : Op) (c : Code) (v : ℕ) (next′ : Host) (staging′ 
         move = GoesOn (in-weave (w .host .weave .running) refl r) (record { cost = Unpaid; staging = Kept; cursors = Same; mark = Overspends; turn = Stays });
         world = rw (is, q, r, off q .0);
         entry = λ b t d. rw (is, q, q);
+        heard-as = λ s. rw (is, q, q, r);
         given = λ k. rw (is, q, q);
         returned = rw is;
         refused = λ e. record { lent = rw (is, off q .0); memory = rw (is, off q .1); host = rw (is, q, r) };
@@ -109,6 +113,7 @@ module _ (w : World) (o : Op) (c : Code) (v : ℕ) (next′ : Host) (staging′ 
         move = Rests;
         world = rw (is, q, r, off q .0);
         entry = λ b t d. rw (is, q, q);
+        heard-as = λ s. rw (is, q, q, r);
         given = λ k. rw (is, q, q);
         returned = rw is;
         refused = λ e. record { lent = rw (is, off q .0); memory = rw (is, off q .1); host = rw (is, q, r) };
@@ -123,10 +128,15 @@ module _ (w : World) (code : ℤ) where
     move = Discards (λ i. i);
     world = rw (q, splice-nil);
     entry = λ b t d. rw q;
+    heard-as = λ s. rw q;
     given = λ k. rw q;
     returned = rw q;
     refused = λ e. absurd (true≢false (sym e ∙ rw q));
   }
+
+  -- a return is not refused with -6
+  return-mild : isBudget (returnCheck (w .lent) (w .host)) ≡ false
+  return-mild = ap isBudget (return-code w .is) ∙ no-budget (checksOf w (Return code)) refl
 
   fate-moved : Fated (w .lent) (w .host) code → Moved w (Return code)
   unfolding step returnAnswer returnCard returnStaging finished withWeave turned
@@ -134,15 +144,17 @@ module _ (w : World) (code : ℤ) where
     move = Rests;
     world = rw (q, splice-nil);
     entry = λ b t d. rw q;
+    heard-as = λ s. rw (q, return-mild);
     given = λ k. rw q;
     returned = rw q;
-    refused = λ e. record { lent = rw (q, splice-nil); memory = refl; host = rw (q, ap isBudget (return-code w .is) ∙ no-budget (checksOf w (Return code)) refl) };
+    refused = λ e. record { lent = rw (q, splice-nil); memory = refl; host = rw (q, return-mild) };
   }
   fate-moved (has-reason a b q) = discards _ q
   fate-moved (turns-on a b low q) = record {
     move = GoesOn (return-runs (w .lent) (w .host) a) (record { cost = Unpaid; staging = Kept; cursors = Cleared (λ i. i); mark = Unmarked; turn = Turns (λ i. i) low });
     world = rw (q, splice-nil);
     entry = λ b t d. rw q;
+    heard-as = λ s. rw q;
     given = λ k. rw q;
     returned = rw q;
     refused = λ e. absurd (true≢false (sym e ∙ rw q));
@@ -152,6 +164,7 @@ module _ (w : World) (code : ℤ) where
     move = Commits (λ i. i) (rw q) code (conditions (w .lent) (w .host) code _ _ q .0);
     world = rw q;
     entry = λ b t d. rw q;
+    heard-as = λ s. rw q;
     given = λ k. rw q;
     returned = rw q;
     refused = λ e. absurd (true≢false (sym e ∙ rw q));
@@ -171,7 +184,7 @@ module _ (w : World) where
   begin-moved args =
       settled w (Begin args) (beginCheck l h args) 0 (withWeave h (begun args)) (beginStaging l h args) [] refl
       (λ e. (rw e, refl)) (begin-code w args) (λ i. no-budget (checksOf w (Begin args)) refl)
-      (λ a f. record { move = Begins args (begin-exactly w args .0 a .idle) (λ b. b); world = rw f; entry = λ b t d. refl; given = λ k. refl; stays = refl })
+      (λ a f. record { move = Begins args (begin-exactly w args .0 a .idle) (λ b. b); world = rw f; entry = λ b t d. refl; heard-as = λ s. refl; given = λ k. refl; stays = refl })
 
   ingress-moved : (topic payload : List ℕ) → Moved w (Ingress topic payload)
   unfolding step ingressAnswer ingressStaging ingressRecord settle withWeave holding
@@ -182,6 +195,7 @@ module _ (w : World) where
         move = GoesOn (ingress-exactly w topic payload .0 a .running) (called w _ Unpaid (Staged _ _ (λ b t. ingress-staged l h topic payload t (ingress-exactly w topic payload .0 a))) Same);
         world = rw f;
         entry = λ b t d. refl;
+        heard-as = λ s. refl;
         given = λ k. refl;
         stays = refl;
       })
@@ -199,6 +213,7 @@ module _ (w : World) where
               move = GoesOn (write-exactly w m at .0 a .gated .running) (record { cost = Free; staging = Kept; cursors = Same; mark = Panics; turn = Stays });
               world = rw (f, p);
               entry = λ b t d. rw p;
+              heard-as = λ s. rw p;
               given = λ k. refl;
               stays = refl;
             }
@@ -208,6 +223,7 @@ module _ (w : World) where
               move = GoesOn (may .gated .running) (called w _ (Paid _ (may .budget p)) (Staged (writtenRecord w m at) _ (λ b t. write-staged l h m at t b may p)) Same);
               world = rw (f, p);
               entry = λ b t d. rw (p, write-staged l h m at t b may p .long);
+              heard-as = λ s. rw p;
               given = λ k. refl;
               stays = refl;
             }
@@ -223,6 +239,7 @@ module _ (w : World) where
           move = GoesOn (may .gated .running) (called w _ (Paid _ (may .budget)) Kept Same);
           world = rw (f, page);
           entry = λ b t d. rw (f, page);
+          heard-as = λ s. refl;
           given = λ k. refl;
           stays = refl;
         })
@@ -237,6 +254,7 @@ module _ (w : World) where
           move = GoesOn (may .gated .running) (called w _ (Paid 1 (may .budget)) Kept (Opens (opening m (openArgs m at) (nextHandle h)) refl (may .room)));
           world = rw f;
           entry = λ b t d. refl;
+          heard-as = λ s. rw f;
           given = λ k. refl;
           stays = refl;
         })
@@ -252,6 +270,7 @@ module _ (w : World) where
           move = GoesOn (may .gated .running) (called w _ (Paid _ (may .budget)) Kept (Hands (nextArgs m at .handle) (nextArgs m at .out .len) (may .handle)));
           world = rw (f, page);
           entry = λ b t d. rw (f, page);
+          heard-as = λ s. refl;
           given = λ k. refl;
           stays = refl;
         })
@@ -266,13 +285,14 @@ module _ (w : World) where
           move = GoesOn (may .gated .running) (called w _ (Paid 1 (may .budget)) Kept (Closes (closeHandle m at) (may .handle)));
           world = rw f;
           entry = λ b t d. refl;
+          heard-as = λ s. refl;
           given = λ k. refl;
           stays = refl;
         })
 
   look-moved : (id : ℕ) → Moved w (LookUp id)
   unfolding step
-  look-moved id = record { move = Rests; world = refl; entry = λ b t d. refl; given = λ k. refl; returned = refl; refused = λ e. absurd (true≢false (sym e)) }
+  look-moved id = record { move = Rests; world = refl; entry = λ b t d. refl; heard-as = λ s. refl; given = λ k. refl; returned = refl; refused = λ e. absurd (true≢false (sym e)) }
 
   -- THE THEOREM
   pub moved : (o : Op) → Moved w o

@@ -1,7 +1,7 @@
--- THE PROMISES, each in one place and in the user's order. What they speak of is in specs/: Box, Checks, Mounting, Refusal, Accepted, Outcome, Diary, ReadBack, Turn,
--- TwoWeaves. That they are about the code is ContractsHold.antt; that they do not hold because nothing happens is the last part.
+-- THE PROMISES, each in one place and in the user's order. What they speak of is in specs/: Box, Checks, Mounting, Refusal, Accepted, Outcome, Diary, Standing,
+-- ReadBack, Turn, TwoWeaves. That they are about the code is ContractsHold.antt; that they do not hold because nothing happens is the last part.
 -- Assumes nothing.
-use mathlib.Core.Path.{_≡_, refl, ap}
+use mathlib.Core.Path.{_≡_, ap}
 use mathlib.Core.Bool.{Bool, true, false}
 use mathlib.Core.List.{List, [], _∷_, map, List·Memᴰ}
 use mathlib.Core.Logic.{_↔_}
@@ -36,8 +36,9 @@ use Rattle.promises.specs.Refusal.{Unchanged, OnlyThere}
 use Rattle.promises.specs.Checks.{Passed, failing, checksOf, answers, tooLate}
 use Rattle.promises.specs.Mounting.{mountChecks, StateOf, noLengths}
 use Rattle.promises.specs.Accepted.{Lawful, BeginMay, IngressMay, WriteMay, ReadMay, OpenMay, NextMay, CloseMay}
-use Rattle.promises.specs.Outcome.{Conditions, InNumbers, Unhindered, moduleCount, Reason, nextTurn, returnsIn, RunsOn, SameCard, saysCommitted, NoneCommitted, Appended, butFaulted, PanicLeft, Begun, SameWeave}
+use Rattle.promises.specs.Outcome.{Conditions, InNumbers, Unhindered, moduleCount, Reason, nextTurn, returnsIn, RunsOn, SameCard, saysCommitted, NoneCommitted, Appended, butFaulted, PanicLeft, begunWith, SameWeave}
 use Rattle.promises.specs.Diary.{Diary, answerOf, ingressRecord, writtenRecord, firstPage, diary, Agrees}
+use Rattle.promises.specs.Standing.{atMount, standing, Stands}
 use Rattle.promises.specs.Turn.{InTurn, handedOver, listLeft, FirstPart, Nexts, Allowed, ListedOf, AskedBy}
 use Rattle.promises.specs.ReadBack.{HasPage, ReadOf}
 use Rattle.promises.specs.TwoWeaves.{saidOver, twoModules, theCalls, theAnswers}
@@ -59,6 +60,7 @@ use Rattle.promises.proofs.AskedHolds.{asked-by, panic-left, codes-are,
 use Rattle.promises.proofs.ReadBackHolds.{write-reads-back, ingress-reads-back, kept-found, staged-found, page-stands, read-page-stands}
 use Rattle.promises.proofs.ReadHolds.{read-lists, read-zero}
 use Rattle.promises.proofs.TidyHolds.{life-tidy}
+use Rattle.promises.proofs.StandingHolds.{life-stands}
 use Rattle.promises.proofs.PagesHold.{open-lists, first-part, end-exactly, drained}
 use Rattle.promises.proofs.ListHolds.{all-allowed, every-allowed, within-limit, all-listed}
 use Rattle.promises.proofs.CommitRuns.{oneModule, commits-one}
@@ -107,7 +109,7 @@ pub ingress-is-too-late-after-the-first-accepted-call : (w : World) (o : Op) →
     → step w o .world .host .weave .late ≡ tooLate w o
 ingress-is-too-late-after-the-first-accepted-call = late-is
 
--- mount: its code likewise, "-3: with the offset of the first record not sound"; refused "its state all 0", else "a fresh state"; and no byte is changed
+-- mount: its code likewise, "-3: with the offset of the first record not sound"; refused "its state all 0", else "a fresh state"
 module _ (l : Lent) (used : ℕ) where
   pub mount-gives-the-code : mounted l used .code ≡ failing (mountChecks l used)
   mount-gives-the-code = mounts l used .code
@@ -120,9 +122,6 @@ module _ (l : Lent) (used : ℕ) where
 
   pub a-mount-is-fresh : mounted l used .code ≡ Fine → StateOf (mounted l used .host) (lengthsOf l) used (1 + length (recordsOn (l .card) used))
   a-mount-is-fresh = mounts l used .fresh
-
-  pub a-mount-changes-no-byte : mountedAs l used .lent ≡ l
-  a-mount-changes-no-byte = refl
 
 -- in words of its own: check 1 passes exactly when this holds
 pub check-1-passes-exactly-when : (l : Lent) (h : Host) → (isFine (lentCheck l h) ≡ true) ↔ Lawful l h
@@ -205,8 +204,9 @@ pub a-discard-restores : (l : Lent) (used : ℕ) (before : List Op) → run (mou
     ≡ zeros (length (run (run (mountedAs l used) before) os .lent .staging))))
 a-discard-restores l used before idle = discard-restores (run (mountedAs l used) before) (life-idle l used before idle)
 
--- begin sets budget, virtual time and trace from its bytes, and while the weave runs they stay
-pub begin-sets-the-weave : (w : World) (args : List ℕ) → isRefused (step w (Begin args) .said) ≡ false → Begun args w (step w (Begin args) .world)
+-- begin sets budget, virtual time and trace from its bytes, all else of the weave is as 01 starts it, and nothing else of the box has changed but that staging
+-- is all 0; while the weave runs the three stay
+pub begin-sets-the-weave : (w : World) (args : List ℕ) → isRefused (step w (Begin args) .said) ≡ false → step w (Begin args) .world ≡ begunWith w args
 begin-sets-the-weave = begin-sets
 
 pub a-weave-keeps-what-begin-set : (w : World) (o : Op) → w .host .weave .running ≡ true → step w o .world .host .weave .running ≡ true → SameWeave w (step w o .world)
@@ -218,6 +218,12 @@ a-weave-keeps-what-begin-set = weave-stays
 pub the-box-keeps-its-diary : (l : Lent) (used : ℕ) (os : List Op) → All (λ (o : Op). Bytes (memoryOf o)) os → mounted l used .code ≡ Fine
     → Agrees (run (mountedAs l used) os) (diary (mountedAs l used) (firstPage l used) os)
 the-box-keeps-its-diary = life-agrees
+
+-- .. and what else a listener knows without looking into it: whether a weave runs, its mark, whether the process is faulted, how many cursors the weave has
+-- opened and which are open. A handle is open exactly when an open of this turn answered it and no close took it; an open finds room exactly when fewer than 4
+-- are open and fewer than 65,535 have been opened. (After any mount, and with anything lent.)
+pub the-box-stands-as-heard : (l : Lent) (used : ℕ) (os : List Op) → Stands (run (mountedAs l used) os) (standing (mountedAs l used) atMount os)
+the-box-stands-as-heard = life-stands
 
 -- and check 1 passes after any calls: none of them leaves a box that the next refuses with -5 for its state
 pub check-1-passes-over-a-life : (l : Lent) (used : ℕ) (os : List Op) → All (λ (o : Op). Bytes (memoryOf o)) os → mounted l used .code ≡ Fine

@@ -6,10 +6,21 @@ use mathlib.Core.List.{List, [], _∷_}
 use Prim.Native.Nat.{ℕ, zero, suc, _+_, _≤_, _<_}
 use native.Mathlib.Omega.{arith}
 use native.Mathlib.Nat.{not-suc-le-zero, le-of-suc-le-suc}
+use lib.Dec.{ltb}
 use lib.ListN.{length, getD, set, replicate}
 use Rattle.le.proofs.TestLaws.{Tested, passes, fails, tested}
 use Rattle.card.specs.Pick.{only}
 use Rattle.weave.specs.Table.{slotPlace}
+use Rattle.weave.proofs.SumLaws.{leb-same}
+
+-- a test as a number
+abbrev pub one : Bool → ℕ
+one true = 1
+one false = 0
+
+one-most : (b : Bool) → one b ≤ 1
+one-most true = omega arith
+one-most false = omega arith
 
 module _ {A : Type 0} (p : A → Bool) (d : A) where
   -- ---- how many pass
@@ -50,16 +61,6 @@ module _ {A : Type 0} (p : A → Bool) (d : A) where
   stored-fewer (x ∷ xs) zero y e = rw (many-fail y xs e) (many-tail x xs)
   stored-fewer (x ∷ xs) (suc i) y e = many-cons x (set xs i y) xs (stored-fewer xs i y e)
 
-  -- storing one where one passed leaves no more
-  pub stored-same : (xs : List A) (i : ℕ) (y : A) → i < length xs → p (getD xs i d) ≡ true → many (set xs i y) ≤ many xs
-  stored-same [] i y h e = absurd (not-suc-le-zero h)
-  stored-same (x ∷ xs) zero y h e = go (tested (p y))
-    where
-      go : Tested (p y) → many (y ∷ xs) ≤ many (x ∷ xs)
-      go (passes q) = rw (many-pass y xs q, many-pass x xs e) (omega arith)
-      go (fails q) = rw (many-fail y xs q) (many-tail x xs)
-  stored-same (x ∷ xs) (suc i) y h e = many-cons x (set xs i y) xs (stored-same xs i y (le-of-suc-le-suc h) e)
-
   -- storing one leaves at most one more
   pub stored-more : (xs : List A) (i : ℕ) (y : A) → many (set xs i y) ≤ suc (many xs)
   stored-more [] i y = omega arith
@@ -73,6 +74,23 @@ module _ {A : Type 0} (p : A → Bool) (d : A) where
       go : Tested (p x) → many (set xs i y) ≤ suc (many xs) → many (x ∷ set xs i y) ≤ suc (many (x ∷ xs))
       go (passes q) ih = rw (many-pass x (set xs i y) q, many-pass x xs q) (omega arith)
       go (fails q) ih = rw (many-fail x (set xs i y) q, many-fail x xs q) ih
+
+  -- how many pass after one was stored, to a hair
+  pub many-first : (x : A) (xs : List A) → many (x ∷ xs) ≡ one (p x) + many xs
+  many-first x xs = go (tested (p x))
+    where
+      go : Tested (p x) → many (x ∷ xs) ≡ one (p x) + many xs
+      go (passes e) = rw e (omega (arith, many-pass x xs e))
+      go (fails e) = rw e (omega (arith, many-fail x xs e))
+
+  pub stored-many : (xs : List A) (i : ℕ) (y : A) → i < length xs → many (set xs i y) + one (p (getD xs i d)) ≡ many xs + one (p y)
+  stored-many [] i y h = absurd (not-suc-le-zero h)
+  stored-many (x ∷ xs) zero y h = omega (arith, many-first x xs, many-first y xs)
+  stored-many (x ∷ xs) (suc i) y h = omega (arith, stored-many xs i y (le-of-suc-le-suc h), many-first x xs, many-first x (set xs i y))
+
+  -- storing one where one passed leaves no more
+  pub stored-same : (xs : List A) (i : ℕ) (y : A) → i < length xs → p (getD xs i d) ≡ true → many (set xs i y) ≤ many xs
+  stored-same xs i y h e = omega (arith, stored-many xs i y h, ap one e, one-most (p y))
 
   -- ---- where the first is that passes
 
@@ -93,6 +111,23 @@ module _ {A : Type 0} (p : A → Bool) (d : A) where
       go : Tested (p x) → (many xs ≡ 0 → length xs ≤ slotPlace p xs) → suc (length xs) ≤ slotPlace p (x ∷ xs)
       go (passes q) ih = absurd (omega (arith, many-pass x xs q))
       go (fails q) ih = rw (place-fail x xs q) (omega (arith, ih (sym (many-fail x xs q) ∙ e)))
+
+  -- one is found exactly when one passes
+  pub place-some : (xs : List A) → 1 ≤ many xs → slotPlace p xs < length xs
+  unfolding only
+  place-some [] h = absurd (not-suc-le-zero h)
+  place-some (x ∷ xs) h = go (tested (p x)) (place-some xs)
+    where
+      go : Tested (p x) → (1 ≤ many xs → slotPlace p xs < length xs) → slotPlace p (x ∷ xs) < suc (length xs)
+      go (passes q) ih = rw (place-pass x xs q) (omega arith)
+      go (fails q) ih = rw (place-fail x xs q) (omega (arith, ih (rw (many-fail x xs q) at h)))
+
+  pub found-exactly : (xs : List A) → ltb (slotPlace p xs) (length xs) ≡ ltb 0 (many xs)
+  found-exactly xs = leb-same (suc (slotPlace p xs)) (length xs) 1 (many xs) (λ h. go (many xs) refl h) (place-some xs)
+    where
+      go : (n : ℕ) → many xs ≡ n → slotPlace p xs < length xs → 1 ≤ many xs
+      go zero q h = absurd (omega (arith, place-none xs q))
+      go (suc n) q h = omega arith
 
   -- the one that is found passes
   pub place-passes : (xs : List A) → slotPlace p xs < length xs → p (getD xs (slotPlace p xs) d) ≡ true
@@ -126,15 +161,7 @@ module _ {A : Type 0} (p : A → Bool) (d : A) where
 
     -- storing it over the one that is found: there is one fewer
     pub stored-gone : (xs : List A) → slotPlace p xs < length xs → many (set xs (slotPlace p xs) y) + 1 ≡ many xs
-    unfolding slotPlace
-    stored-gone [] h = absurd (not-suc-le-zero h)
-    stored-gone (x ∷ xs) h = go (tested (p x)) (stored-gone xs)
-      where
-        go : Tested (p x) → (slotPlace p xs < length xs → many (set xs (slotPlace p xs) y) + 1 ≡ many xs) → many (set (x ∷ xs) (slotPlace p (x ∷ xs)) y) + 1 ≡ many (x ∷ xs)
-        go (passes t) ih = rw (place-pass x xs t, many-fail y xs e, many-pass x xs t) (omega arith)
-        go (fails t) ih =
-            rw (place-fail x xs t, many-fail x (set xs (slotPlace p xs) y) t, many-fail x xs t)
-            (ih (le-of-suc-le-suc (rw (place-fail x xs t) at h)))
+    stored-gone xs h = omega (arith, stored-many xs (slotPlace p xs) y h, ap one (place-passes xs h), ap one e)
 
   -- storing one that passes over the one that is found
   module _ (y : A) (e : p y ≡ true) where

@@ -3,7 +3,7 @@
 use mathlib.Core.Path.{_≡_, refl}
 use mathlib.Core.Bool.{true}
 use mathlib.Core.List.{List, [], _∷_}
-use Prim.Native.Nat.{ℕ, _+_, _<_}
+use Prim.Native.Nat.{ℕ, _+_, _≤_, _<_}
 use native.Mathlib.Omega.{arith}
 use borrow.Author.Tests.{ltb-true}
 use lib.Dec.{ltb}
@@ -43,9 +43,13 @@ pub handle-there : (w : Weave) → Tidy (w .slots) (w .opened) → (k : ℕ) →
 unfolding handleFine
 handle-there w t k f = rw (t .four) (ltb-true (slotPlace (hasHandle k) (w .slots)) 4 (and-right (ltb 0 k) _ f))
 
+pub handle-least : (w : Weave) (k : ℕ) → handleFine w k ≡ true → 1 ≤ k
+unfolding handleFine
+handle-least w k f = ltb-true 0 k (and-left (ltb 0 k) _ f)
+
 -- ---- any move
 
-cursors-tidy : (w : World) (o : Op) (c : Cursors w o) → TidyIn w → Tidy (slotsAfter w o c) (openedAfter w o c)
+pub cursors-tidy : (w : World) (o : Op) (c : Cursors w o) → TidyIn w → Tidy (slotsAfter w o c) (openedAfter w o c)
 cursors-tidy w o Same t = t
 cursors-tidy w o (Opens s e f) t =
     let new = handle-new (w .host .weave) f in

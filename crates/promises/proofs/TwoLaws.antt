@@ -15,7 +15,7 @@ use Rattle.text.specs.Compare.{sameBytes}
 use Rattle.text.specs.Decimal.{numberOf, noLeadingZero, numberFrom, digits, valueFrom}
 use Rattle.text.specs.Lines.{closed, fields, lineAt, lines, field}
 use Rattle.text.specs.Span.{inside}
-use Rattle.text.specs.Topic.{goodText, goodTopic, noControl}
+use Rattle.text.specs.Topic.{goodText, noControl}
 use Rattle.text.specs.Utf8.{utf8, utf8From, after}
 use Rattle.text.specs.Words.{panicTopic, coreTopic, logTopic}
 use Rattle.value.specs.declared.Checked.{Checked}
@@ -54,10 +54,6 @@ may-read = (refl, refl)
 pub topic-is : part 168 1 memory ≡ 116 ∷ []
 unfolding memory leBytes part
 topic-is = refl
-
-pub good-letter : goodTopic (116 ∷ []) ≡ true
-unfolding goodText utf8 utf8From after noControl
-good-letter = refl
 
 pub write-args : writeArgs memory 8 ≡ record { topic = record { ptr = 168; len = 1 }; place = 0; len = 0; flags = 1 }
 unfolding writeArgs fieldAt recordFine inside memory leBytes leAt

@@ -19,7 +19,7 @@ use Rattle.host.specs.Hosts.{Lent, withWeave, turnedAway, settle}
 use Rattle.host.specs.Begin.{beginCheck, beginAnswer, beginStaging}
 use Rattle.host.specs.Ending.{committed}
 use Rattle.promises.specs.Box.{World, Op, Begin, step, isRefused, argsOf, LendsBytes, mountedAs, run}
-use Rattle.promises.specs.Outcome.{Begun, SameWeave}
+use Rattle.promises.specs.Outcome.{begunWith, SameWeave}
 use Rattle.promises.proofs.AcceptedLaws.{settle-ok}
 use Rattle.promises.proofs.AcceptedHolds.{begin-exactly}
 use Rattle.promises.proofs.MountHolds.{mount-fresh}
@@ -34,20 +34,14 @@ whole-trace t e =
     sym (part-whole (length t) (splice (zeros 32) 0 t) (omega (arith, length-splice (zeros 32) 0 t, length-replicate {0} {A = ℕ} 32 0)))
     ∙ part-of-splice (zeros 32) 0 t (omega (arith, length-replicate {0} {A = ℕ} 32 0))
 
-pub begin-sets : (w : World) (args : List ℕ) → isRefused (step w (Begin args) .said) ≡ false → Begun args w (step w (Begin args) .world)
+-- THE PROMISE: a begin that is not refused makes the weave from its bytes, and changes nothing else
+pub begin-sets : (w : World) (args : List ℕ) → isRefused (step w (Begin args) .said) ≡ false → step w (Begin args) .world ≡ begunWith w args
 unfolding step beginAnswer beginStaging settle turnedAway withWeave begun begunWeave argAt traceOf
 begin-sets w args e =
     let c = settle-ok (w .host) (beginCheck (w .lent) (w .host) args) 0 _ e in
     let n = begin-exactly w args .0 e .long in
     let is = eq-eqb (length args) 128 n in
-    record {
-      resmax = rw (c, is);
-      time = rw (c, is);
-      trace = rw c (whole-trace (part 56 32 args) (length-part 56 32 args (omega arith)));
-      units = rw c;
-      turn = rw c;
-      staging = rw c;
-    }
+    rw (c, is, whole-trace (part 56 32 args) (length-part 56 32 args (omega arith)))
 
 -- ---- while it runs
 

@@ -5,6 +5,7 @@ pub mod Mounting
 pub mod Accepted
 pub mod Outcome
 pub mod Diary
+pub mod Standing
 pub mod Turn
 pub mod ReadBack
 pub mod Edges

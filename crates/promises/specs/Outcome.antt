@@ -20,7 +20,7 @@ use Rattle.weave.specs.Table.{noSlots}
 use Rattle.weave.specs.States.{freshWeave}
 use Rattle.host.specs.declared.Host.{Host}
 use Rattle.host.specs.declared.Fate.the-variants.{Refused, Discarded, Running, Committed}
-use Rattle.host.specs.Hosts.{Lent, lentCheck}
+use Rattle.host.specs.Hosts.{Lent, lentAs, withWeave, lentCheck}
 use Rattle.promises.specs.Box.{World, stagedPart, Op, Return, isRefused, saidEvents, saidBytes, Said, Answered, Ended, Part, Step, step, saidNumber}
 use Rattle.promises.specs.Refusal.{OnlyThere}
 use Rattle.promises.specs.Checks.{failing, checksOf}
@@ -142,12 +142,15 @@ RunsOn w (o ∷ os) = (w .host .weave .running ≡ true) × RunsOn (step w o .wo
 
 -- "Commit appends the staged bytes to the used part; no other card byte changes"
 pub record Appended (was is : World) : Type 0 where
+  pub lengths : is .host .lengths ≡ was .host .lengths
   pub used : is .host .used ≡ was .host .used + was .host .weave .staged
   pub next : is .host .next .0 ≡ was .host .next .0 + was .host .weave .count
   pub bytes : part (was .host .used) (was .host .weave .staged) (is .lent .card) ≡ take (was .host .weave .staged) (was .lent .staging)
   pub others : OnlyThere (was .lent .card) (is .lent .card) (was .host .used) (was .host .weave .staged)
+  pub faulted : is .host .faulted ≡ was .host .faulted
   pub weave : is .host .weave ≡ freshWeave
   pub staging : is .lent .staging ≡ zeros (length (was .lent .staging))
+  pub text : is .lent .text ≡ was .lent .text
 
 -- "Discard leaves the card, and the state as before begin (but for faulted)": the state as it was, with the mark `faulted` as it is
 abbrev pub butFaulted : Host → Bool → Host
@@ -164,13 +167,25 @@ pub record PanicLeft (was : World) (s : Step) : Type 0 where
   pub faulted : s .world .host .faulted ≡ true
 
 -- begin: "Used are res_max at 24, virt_time at 48, trace at 56. Staging becomes all 0, units 0, module 1 has its turn."
-pub record Begun (args : List ℕ) (was is : World) : Type 0 where
-  pub resmax : is .host .weave .resmax ≡ leAt 8 args 24
-  pub time : is .host .weave .time .0 ≡ leAt 8 args 48
-  pub trace : is .host .weave .trace ≡ part 56 32 args
-  pub units : is .host .weave .units ≡ 0
-  pub turn : is .host .weave .turn ≡ 1
-  pub staging : is .lent .staging ≡ zeros (length (was .lent .staging))
+abbrev pub firstTurn : List ℕ → Weave
+firstTurn args = record {
+  running = true;
+  spoiled = record { 0 = Not };
+  turn = 1;
+  late = false;
+  staged = 0;
+  count = 0;
+  units = 0;
+  resmax = leAt 8 args 24;
+  time = record { 0 = leAt 8 args 48 };
+  trace = part 56 32 args;
+  opened = 0;
+  slots = noSlots;
+}
+
+-- .. and nothing else of the box has changed
+abbrev pub begunWith : World → List ℕ → World
+begunWith w args = record { host = withWeave (w .host) (firstTurn args); lent = lentAs (zeros (length (w .lent .staging))) (w .lent .card) (w .lent .text) }
 
 -- one weave: what begin set stays while it runs
 pub record SameWeave (was is : World) : Type 0 where
