@@ -13,10 +13,10 @@ use Rattle.le.proofs.TestLaws.{and-left, and-right, and-both}
 use Rattle.text.specs.Compare.{prefixOf}
 use Rattle.record.specs.Record.{idOf, topicOf}
 use Rattle.card.specs.Pick.{All, only}
-use Rattle.card.specs.Listing.{filterOf, listed, turn, listOf, Before}
+use Rattle.card.specs.Listing.{filterOf, listed, inOrder, listOf, Before}
 use Rattle.card.specs.declared.Cursor.{Cursor}
 use Rattle.card.proofs.RecordsLaws.{Rising}
-use Rattle.card.proofs.ListingLaws.{listed-all, listed-every, sorted-turn}
+use Rattle.card.proofs.ListingLaws.{listed-all, listed-every, sorted-order}
 use Rattle.card.proofs.PickLaws.{all-map, all-only, all-reverse, mem-only, mem-reverse, only-passes, sorted-only}
 use Rattle.promises.specs.Turn.{Allowed, ListedOf}
 
@@ -43,14 +43,14 @@ module _ (may : List ℕ → Bool) (c : Cursor) where
   all-allowed rs = all-map (λ (r : List ℕ). listed may c r ≡ true) (Allowed may c) listed-means (listOf may c rs) (listed-all may c rs)
 
   -- every event that is allowed is in the list, where the limit does not cut it
-  pub every-allowed : (rs : List (List ℕ)) (r : List ℕ) → List·Memᴰ r rs → Allowed may c r → length (only (listed may c) (turn (c .desc) rs)) ≤ c .limit
+  pub every-allowed : (rs : List (List ℕ)) (r : List ℕ) → List·Memᴰ r rs → Allowed may c r → length (only (listed may c) (inOrder (c .desc) rs)) ≤ c .limit
       → List·Memᴰ r (listOf may c rs)
   every-allowed rs r m a h = listed-every may c rs r m (means-listed r a) h
 
   -- "The limit counts from the list's head; 0 means no event"
   pub within-limit : (rs : List (List ℕ)) → length (listOf may c rs) ≤ c .limit
   unfolding listOf
-  within-limit rs = omega (arith, length-take (c .limit) (only (listed may c) (turn (c .desc) rs)), min-le-left (c .limit) (length (only (listed may c) (turn (c .desc) rs))))
+  within-limit rs = omega (arith, length-take (c .limit) (only (listed may c) (inOrder (c .desc) rs)), min-le-left (c .limit) (length (only (listed may c) (inOrder (c .desc) rs))))
 
 -- ---- all that are allowed, and the limit
 
@@ -58,22 +58,22 @@ pub members : (rs : List (List ℕ)) → All (λ (r : List ℕ). List·Memᴰ r 
 members [] = tt
 members (r ∷ rs) = (List·Memᴰ·head refl, all-map (λ (x : List ℕ). List·Memᴰ x rs) (λ (x : List ℕ). List·Memᴰ x (r ∷ rs)) (λ x m. List·Memᴰ·tail m) rs (members rs))
 
-turned-all : (P : List ℕ → Type 0) (d : Bool) (rs : List (List ℕ)) → All P rs → All P (turn d rs)
-unfolding turn
-turned-all P false rs a = a
-turned-all P true rs a = all-reverse P rs a
+ordered-all : (P : List ℕ → Type 0) (d : Bool) (rs : List (List ℕ)) → All P rs → All P (inOrder d rs)
+unfolding inOrder
+ordered-all P false rs a = a
+ordered-all P true rs a = all-reverse P rs a
 
-turned-mem : (r : List ℕ) (d : Bool) (rs : List (List ℕ)) → List·Memᴰ r rs → List·Memᴰ r (turn d rs)
-unfolding turn
-turned-mem r false rs m = m
-turned-mem r true rs m = mem-reverse r rs m
+ordered-mem : (r : List ℕ) (d : Bool) (rs : List (List ℕ)) → List·Memᴰ r rs → List·Memᴰ r (inOrder d rs)
+unfolding inOrder
+ordered-mem r false rs m = m
+ordered-mem r true rs m = mem-reverse r rs m
 
-pub all-listed : (may : List ℕ → Bool) (c : Cursor) (rs : List (List ℕ)) → Rising rs → ListedOf may c rs (only (listed may c) (turn (c .desc) rs))
+pub all-listed : (may : List ℕ → Bool) (c : Cursor) (rs : List (List ℕ)) → Rising rs → ListedOf may c rs (only (listed may c) (inOrder (c .desc) rs))
 unfolding listOf
 all-listed may c rs up = record {
-  every = λ r m a. mem-only (listed may c) r (turn (c .desc) rs) (means-listed may c r a) (turned-mem r (c .desc) rs m);
-  of-these = all-only (λ (r : List ℕ). List·Memᴰ r rs) (listed may c) (turn (c .desc) rs) (turned-all (λ (r : List ℕ). List·Memᴰ r rs) (c .desc) rs (members rs));
-  none-besides = all-map (λ (r : List ℕ). listed may c r ≡ true) (Allowed may c) (listed-means may c) (only (listed may c) (turn (c .desc) rs)) (only-passes (listed may c) (turn (c .desc) rs));
-  in-order = sorted-only (Before (c .desc)) (listed may c) (turn (c .desc) rs) (sorted-turn (c .desc) rs up);
+  every = λ r m a. mem-only (listed may c) r (inOrder (c .desc) rs) (means-listed may c r a) (ordered-mem r (c .desc) rs m);
+  of-these = all-only (λ (r : List ℕ). List·Memᴰ r rs) (listed may c) (inOrder (c .desc) rs) (ordered-all (λ (r : List ℕ). List·Memᴰ r rs) (c .desc) rs (members rs));
+  none-besides = all-map (λ (r : List ℕ). listed may c r ≡ true) (Allowed may c) (listed-means may c) (only (listed may c) (inOrder (c .desc) rs)) (only-passes (listed may c) (inOrder (c .desc) rs));
+  in-order = sorted-only (Before (c .desc)) (listed may c) (inOrder (c .desc) rs) (sorted-order (c .desc) rs up);
   head = refl;
 }

@@ -12,7 +12,7 @@ use lib.ListN.{length, take}
 use Rattle.le.proofs.TestLaws.{Tested, passes, fails, tested}
 use Rattle.card.specs.Pick.{All, only}
 use Rattle.card.specs.Records.{size}
-use Rattle.card.specs.Listing.{listed, turn, listOf, fit, pageOf}
+use Rattle.card.specs.Listing.{listed, inOrder, listOf, fit, pageOf}
 use Rattle.card.specs.declared.Cursor.{Cursor}
 use Rattle.card.specs.declared.Page.{Page}
 use Rattle.card.specs.declared.Page.the-variants.{End, Short, Bytes}
@@ -100,7 +100,7 @@ take-none (suc n) = refl
 
 pub window-none : (w : World) (m : List ℕ) (a : ℕ) → cursorAt w m a .to .0 ≤ cursorAt w m a .from .0 → listLeft w (nextArgs m a .handle) ≡ []
 unfolding nextList listOf
-window-none w m a h = rw (none-listed _ (cursorAt w m a) h (turn (cursorAt w m a .desc) _)) (take-none (cursorAt w m a .limit))
+window-none w m a h = rw (none-listed _ (cursorAt w m a) h (inOrder (cursorAt w m a .desc) _)) (take-none (cursorAt w m a .limit))
 
 pub limit-none : (w : World) (m : List ℕ) (a : ℕ) → cursorAt w m a .limit ≡ 0 → listLeft w (nextArgs m a .handle) ≡ []
 unfolding nextList listOf

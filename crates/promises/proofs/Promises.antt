@@ -14,7 +14,7 @@ use Rattle.manifest.specs.Saying.{mayRead}
 use Rattle.record.specs.Written.{Written}
 use Rattle.card.specs.Pick.{All, Sorted, only}
 use Rattle.card.specs.Records.{records, size}
-use Rattle.card.specs.Listing.{fit, listed, turn, listOf, Before}
+use Rattle.card.specs.Listing.{fit, listed, inOrder, listOf, Before}
 use Rattle.card.specs.declared.Cursor.{Cursor}
 use Rattle.card.proofs.RecordsLaws.{records-rise}
 use Rattle.card.proofs.ListingLaws.{listed-order}
@@ -315,7 +315,7 @@ module _ (l : Lent) (used : ℕ) (before : List Op) (m : List ℕ) (at k : ℕ) 
   everything-comes-out = drained w (life-tidy l used before) m at k o
 
 -- the list is the first `limit` of all the events that filter, window and grants allow: the limit cuts its tail, and none of those is left out
-pub the-limit-cuts-the-tail : (may : List ℕ → Bool) (c : Cursor) (card : List ℕ) → ListedOf may c (records card 1) (only (listed may c) (turn (c .desc) (records card 1)))
+pub the-limit-cuts-the-tail : (may : List ℕ → Bool) (c : Cursor) (card : List ℕ) → ListedOf may c (records card 1) (only (listed may c) (inOrder (c .desc) (records card 1)))
 the-limit-cuts-the-tail may c card = all-listed may c (records card 1) (records-rise card 1)
 
 -- of the list: "each once, in order": the numbers strictly rise, or downward strictly fall
@@ -328,7 +328,7 @@ none-besides = all-allowed
 
 -- every one that they allow, where the limit does not cut
 pub none-left-out : (may : List ℕ → Bool) (c : Cursor) (rs : List (List ℕ)) (r : List ℕ) → List·Memᴰ r rs → Allowed may c r
-    → length (only (listed may c) (turn (c .desc) rs)) ≤ c .limit → List·Memᴰ r (listOf may c rs)
+    → length (only (listed may c) (inOrder (c .desc) rs)) ≤ c .limit → List·Memᴰ r (listOf may c rs)
 none-left-out = every-allowed
 
 -- "cut to the limit"

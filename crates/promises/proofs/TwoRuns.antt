@@ -21,7 +21,7 @@ use Rattle.manifest.specs.Saying.{mayRead}
 use Rattle.record.specs.Record.{idOf, topicOf}
 use Rattle.record.specs.Written.{Written}
 use Rattle.card.specs.Pick.{only}
-use Rattle.card.specs.Listing.{listed, turn, listOf, fit, pageOf, advance}
+use Rattle.card.specs.Listing.{listed, inOrder, listOf, fit, pageOf, advance}
 use Rattle.card.specs.declared.Page.the-variants.{End, Bytes as Sized}
 use Rattle.card.specs.Records.{upTo, records}
 use Rattle.card.specs.declared.Cursor.{Cursor}
@@ -67,8 +67,8 @@ use Rattle.promises.proofs.ListHolds.{means-listed}
 use Rattle.promises.proofs.RunLaws.{no-bytes, long, At, one-more, emptyBox, mount-ok, mount-host, at-first}
 use Rattle.promises.proofs.TwoLaws.{long-memory, said-good, said-two, may-write, may-read, topic-is, write-args, read-args, open-args, next-args, close-arg, records-fine, topic-fine, filter-fine, out-fine, no-panic, payload-fine, raw, memory-bytes, topic-long, data-none, topic-read}
 
-one-listed : (p : List ℕ → Bool) (d : Bool) (k : ℕ) (r : List ℕ) → d ≡ false → k ≡ 9 → p r ≡ true → take k (only p (turn d (r ∷ []))) ≡ r ∷ []
-unfolding only turn
+one-listed : (p : List ℕ → Bool) (d : Bool) (k : ℕ) (r : List ℕ) → d ≡ false → k ≡ 9 → p r ≡ true → take k (only p (inOrder d (r ∷ []))) ≡ r ∷ []
+unfolding only inOrder
 one-listed p d k r x y z = rw (x, y, z)
 
 module _ (n c : ℕ) (n-least : 65536 ≤ n) (n-most : n ≤ 1048576) (c-least : 136 ≤ c) (c-most : c ≤ 16777216) where
