@@ -12,7 +12,7 @@ use borrow.Author.Tests.{eq-eqb, ne-eqb, eqb-true, eqb-false}
 use lib.Dec.{eqb, lit<}
 use lib.ListN.{getD}
 use Rattle.le.specs.Le.{Bytes, leAt}
-use Rattle.le.proofs.TestLaws.{Tested, passes, fails, tested, and-left, and-right, and-assoc}
+use Rattle.le.proofs.TestLaws.{Tested, passes, fails, tested, and-left, and-right, and-assoc, and-pairs}
 
 -- `word w` tests numbers of w bytes and `byte` one byte: the number passes where its lowest byte does, and the number of w bytes above it. Each is held
 -- against a second one: another text's, a mask's, or one that the test does not look at.
@@ -111,3 +111,11 @@ and-bytes b c v k hb hc =
 pub clear-by-bytes : ByBytes clear clear-word
 clear-by-bytes =
     record { nothing = refl; lowest = λ w b c v k hb hc. rw (and-bytes b c v k hb hc) (same-by-bytes .lowest w (bitAnd b c) 0 (bitAnd v k) 0 (omega (arith, and-le-l b c)) (lit< tt)) }
+
+-- two tests together
+pub both-by-bytes : {byte also : ℕ → ℕ → Bool} {word too : ℕ → ℕ → ℕ → Bool} → ByBytes byte word → ByBytes also too
+    → ByBytes (λ b c. byte b c && also b c) (λ w v k. word w v k && too w v k)
+both-by-bytes {byte} {also} {word} {too} p q = record {
+  nothing = rw (p .nothing, q .nothing);
+  lowest = λ w b c v k hb hc. rw (p .lowest w b c v k hb hc, q .lowest w b c v k hb hc) (and-pairs (byte b c) (word w v k) (also b c) (too w v k));
+}

@@ -1,28 +1,57 @@
--- The laws of `noControl` that a loop over the bytes asks for, whose `all` is what the whole input gives; and the two rules for topics.
+-- The laws of `noControl` that a loop over the bytes asks for, whose `all` is what the whole input gives; what a good text has not; and the two rules for topics.
 -- Assumes nothing.
-use mathlib.Core.Path.{_≡_}
-use mathlib.Core.Bool.{Bool, true, false}
-use mathlib.Core.List.{List}
+use mathlib.Core.Path.{_≡_, refl, sym, _∙_}
+use mathlib.Core.Bool.{Bool, true, false, _&&_, true≢false}
+use mathlib.Core.List.{List, [], _∷_, List·Memᴰ, List·Memᴰ·head, List·Memᴰ·tail}
 use Prim.Native.Nat.{ℕ, _+_, _≤_, _<_}
 use native.Mathlib.Omega.{arith}
-use borrow.Author.Tests.{le-leb, lt-leb}
+use lib.Dec.{leb}
 use lib.ListN.{length, getD, drop, drop-of-length-le}
 use Rattle.le.proofs.SpliceLaws.{drop-head}
-use Rattle.text.specs.Topic.{noControl, goodTopic, cardTopic}
+use Rattle.le.proofs.TestLaws.{and-left, and-right, and-both, and-no-right}
+use Rattle.text.specs.declared.topic.Rule.{Rule}
+use Rattle.text.specs.declared.topic.Rule.the-variants.{Called, Kept}
+use Rattle.text.specs.Utf8.{utf8}
+use Rattle.text.specs.Topic.{mayStand, noControl, goodText, goodTopic, cardTopic}
 
-module _ (s : List ℕ) (i : ℕ) (all : Bool) where
-  pub control-turn : i < length s → 32 ≤ getD s i 0 → noControl (drop i s) ≡ all → noControl (drop (i + 1) s) ≡ all
+module _ (rule : Rule) (s : List ℕ) (i : ℕ) (all : Bool) where
+  pub control-turn : i < length s → mayStand rule (getD s i 0) ≡ true → noControl rule (drop i s) ≡ all → noControl rule (drop (i + 1) s) ≡ all
   unfolding noControl
-  control-turn h l inv = rw (drop-head s i (i + 1) h (omega arith), le-leb 32 (getD s i 0) l) at inv
+  control-turn h l inv = rw (drop-head s i (i + 1) h (omega arith), l) at inv
 
-  pub control-bad : i < length s → getD s i 0 < 32 → noControl (drop i s) ≡ all → false ≡ all
+  pub control-bad : i < length s → mayStand rule (getD s i 0) ≡ false → noControl rule (drop i s) ≡ all → false ≡ all
   unfolding noControl
-  control-bad h l inv = rw (drop-head s i (i + 1) h (omega arith), lt-leb 32 (getD s i 0) l) at inv
+  control-bad h l inv = rw (drop-head s i (i + 1) h (omega arith), l) at inv
 
-  pub control-end : length s ≤ i → noControl (drop i s) ≡ all → true ≡ all
+  pub control-end : length s ≤ i → noControl rule (drop i s) ≡ all → true ≡ all
   unfolding noControl
   control-end h inv = rw (drop-of-length-le s h) at inv
 
+-- a byte that may not stand there: no text with it has none
+pub control-among : (rule : Rule) (b : ℕ) → mayStand rule b ≡ false → (s : List ℕ) → List·Memᴰ b s → noControl rule s ≡ false
+unfolding noControl
+control-among rule b n (x ∷ s) (List·Memᴰ·head e) = rw (← e, n)
+control-among rule b n (x ∷ s) (List·Memᴰ·tail m) = and-no-right (mayStand rule x) _ (control-among rule b n s m)
+
+good-stands : (rule : Rule) (least most : ℕ) (s : List ℕ) → goodText rule least most s ≡ true → noControl rule s ≡ true
+unfolding goodText
+good-stands rule least most s e = and-right (utf8 s) _ (and-right (leb (length s) most) _ (and-right (leb least (length s)) _ e))
+
+-- 02, A2: what a call or a grant names has no byte 127
+pub good-no-del : (least most : ℕ) (s : List ℕ) → goodText Called least most s ≡ true → List·Memᴰ 127 s → ⊥
+good-no-del least most s e m = true≢false (sym (good-stands Called least most s e) ∙ control-among Called 127 refl s m)
+
 -- what a call may write, a card may hold
+called-stands : (s : List ℕ) → noControl Called s ≡ true → noControl Kept s ≡ true
+unfolding noControl
+called-stands [] e = refl
+called-stands (b ∷ s) e =
+    and-both (leb 32 b) _ (and-left (leb 32 b) _ (and-left (mayStand Called b) _ e)) (called-stands s (and-right (mayStand Called b) _ e))
+
 pub called-kept : (s : List ℕ) → goodTopic s ≡ true → cardTopic s ≡ true
-called-kept s e = e
+unfolding goodText
+called-kept s e =
+    let f = and-right (leb 1 (length s)) _ e in
+    let g = and-right (leb (length s) 2048) _ f in
+    and-both (leb 1 (length s)) _ (and-left (leb 1 (length s)) _ e)
+    (and-both (leb (length s) 2048) _ (and-left (leb (length s) 2048) _ f) (and-both (utf8 s) _ (and-left (utf8 s) _ g) (called-stands s (and-right (utf8 s) _ g))))

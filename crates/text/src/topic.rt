@@ -3,35 +3,56 @@ ghost use mathlib.Core.Path.{_≡_};
 ghost use Prim.Native.Nat.{_≤_};
 ghost use lib.ListN.{length, drop};
 ghost use Rattle.text.specs.Utf8.{utf8};
-ghost use Rattle.text.specs.Topic.{noControl, goodText, goodTopic, cardTopic, goodFilter};
+ghost use Rattle.text.specs.declared.topic.Rule.{Rule};
+ghost use Rattle.text.specs.Topic.{mayStand, noControl, goodText, goodTopic, cardTopic, goodFilter};
 use crate::limits::Limits;
 
-fn no_control(s: &[u8]) -> bool
-    ensures { λ r. ⌜ r ≡ noControl (now (s .entry)) ⌝ }
+// Which bytes may stand: in a topic or filter of a call or a grant; in a topic that a card keeps. Cards outlive the rule for calls.
+pub enum Rule {
+    Called,
+    Kept,
+}
+
+fn may_stand(b: u8, rule: Rule) -> bool
+    ensures { λ r. ⌜ r ≡ mayStand rule b ⌝ }
+{
+    match rule {
+        Rule::Called => 32 <= b && b != 127,
+        Rule::Kept => 32 <= b,
+    }
+}
+
+fn no_control(s: &[u8], rule: Rule) -> bool
+    ensures { λ r. ⌜ r ≡ noControl rule (now (s .entry)) ⌝ }
 {
     let mut i = 0;
     while i < s.len() {
-        if s[i] < 32 {
+        if may_stand(s[i], rule) {
+            i += 1;
+        } else {
             return false;
         }
-        i += 1;
     }
     true
 }
 
-// How many bytes at the front are from 32 to 127, in steps of eight: whether the text is good is then up to the others.
+// How many bytes at the front are from 32 to 126, in steps of eight: they may stand by either rule, and whether the text is good is then up to the others.
 fn plain_front(s: &[u8]) -> usize
-    ensures { λ n. ⌜ (n ≤ length (now (s .entry))) × (utf8 (drop n (now (s .entry))) ≡ utf8 (now (s .entry))) × (noControl (drop n (now (s .entry))) ≡ noControl (now (s .entry))) ⌝ }
+    ensures { λ n. ⌜ (n ≤ length (now (s .entry))) × (utf8 (drop n (now (s .entry))) ≡ utf8 (now (s .entry))) × ((rule : Rule) → noControl rule (drop n (now (s .entry))) ≡ noControl rule (now (s .entry))) ⌝ }
 {
     let mut i = 0;
     while 8 <= s.len() - i {
         let eight = le::read_u64(s, i);
-        // A byte above 127 has the highest bit. Add 96 to a byte below 32, and its highest bit is still 0.
+        // A byte above 127 has the highest bit.
         if eight & 0x8080_8080_8080_8080 != 0 {
             return i;
         }
-        let raised = (eight & 0x7F7F_7F7F_7F7F_7F7F) + 0x6060_6060_6060_6060;
-        if raised & 0x8080_8080_8080_8080 != 0x8080_8080_8080_8080 {
+        // Add 96 to a byte below 32, and its highest bit is still 0. Add 1 to any but 127, and it is too.
+        let low = eight & 0x7F7F_7F7F_7F7F_7F7F;
+        if (low + 0x6060_6060_6060_6060) & 0x8080_8080_8080_8080 != 0x8080_8080_8080_8080 {
+            return i;
+        }
+        if (low + 0x0101_0101_0101_0101) & 0x8080_8080_8080_8080 != 0 {
             return i;
         }
         i += 8;
@@ -39,8 +60,8 @@ fn plain_front(s: &[u8]) -> usize
     i
 }
 
-fn good_text(s: &[u8], least: usize, most: usize) -> bool
-    ensures { λ r. ⌜ r ≡ goodText least most (now (s .entry)) ⌝ }
+fn good_text(s: &[u8], rule: Rule, least: usize, most: usize) -> bool
+    ensures { λ r. ⌜ r ≡ goodText rule least most (now (s .entry)) ⌝ }
 {
     if s.len() < least {
         return false;
@@ -51,7 +72,7 @@ fn good_text(s: &[u8], least: usize, most: usize) -> bool
     let plain = plain_front(s);
     let rest = le::tail(s, plain);
     if crate::utf8::valid(rest) {
-        no_control(rest)
+        no_control(rest, rule)
     } else {
         false
     }
@@ -61,18 +82,18 @@ fn good_text(s: &[u8], least: usize, most: usize) -> bool
 pub fn good_topic(s: &[u8]) -> bool
     ensures { λ r. ⌜ r ≡ goodTopic (now (s .entry)) ⌝ }
 {
-    good_text(s, Limits::LEAST_TOPIC, Limits::TOPIC)
+    good_text(s, Rule::Called, Limits::LEAST_TOPIC, Limits::TOPIC)
 }
 
 // A topic of a record.
 pub fn card_topic(s: &[u8]) -> bool
     ensures { λ r. ⌜ r ≡ cardTopic (now (s .entry)) ⌝ }
 {
-    good_text(s, Limits::LEAST_TOPIC, Limits::TOPIC)
+    good_text(s, Rule::Kept, Limits::LEAST_TOPIC, Limits::TOPIC)
 }
 
 pub fn good_filter(s: &[u8]) -> bool
     ensures { λ r. ⌜ r ≡ goodFilter (now (s .entry)) ⌝ }
 {
-    good_text(s, 0, Limits::FILTER)
+    good_text(s, Rule::Called, 0, Limits::FILTER)
 }

@@ -37,8 +37,9 @@ unfolding goodText
 returns-3 c =
     let v = c .before .before in
     let p = v .before .before in
+    let rule = p .before .before .before .before .args .rule in
     simp (le-leb _ _ (p .before .before .if1 .left), le-leb _ _ (p .before .if2 .left), whole v ∙ c .before .if3 .taken)
-    (c .no-control .ensures ∙ ap noControl (v .before .tail .ensures) ∙ p .plain-front .ensures .2)
+    (c .no-control .ensures ∙ ap (noControl rule) (v .before .tail .ensures) ∙ p .plain-front .ensures .2 rule)
 
 returns-4 : tie.Need-returns-4
 unfolding goodText

@@ -1,7 +1,8 @@
 -- `text::topic::no_control` meets its contract: what is left gives what the whole gives. Assumes nothing.
-use mathlib.Core.Path.{_≡_, refl}
+use mathlib.Core.Path.{_≡_, refl, sym, _∙_}
 use Prim.Native.Nat.{_≤_, _-_}
 use native.Mathlib.Omega.{arith}
+use borrow.Author.Needs.{needs}
 use denote.Ref.{now}
 use lib.ListN.{length, drop}
 use Rattle.text.specs.Topic.{noControl}
@@ -10,23 +11,19 @@ use Rattle.text.proofs.topic.no_control.Statement.{statement}
 use Rattle.text.proofs.topic.no_control.Tie as tie
 
 abbrev Inv-loop : tie.InvT-loop
-Inv-loop s i₀ i = (i ≤ length s) × (noControl (drop i s) ≡ noControl s)
+Inv-loop s rule i₀ i = (i ≤ length s) × (noControl rule (drop i s) ≡ noControl rule s)
 
 abbrev μ-loop : tie.MeasureT-loop
-μ-loop s i₀ i = length s - i
+μ-loop s rule i₀ i = length s - i
 
 loop-holds : tie.Need-loop-holds Inv-loop μ-loop
 loop-holds c = (omega arith, refl)
 
-shared-slice-read-if1 : tie.Need-shared-slice-read-if1 Inv-loop μ-loop
-shared-slice-read-if1 c = omega arith
+shared-slice-read-may-stand : tie.Need-shared-slice-read-may-stand Inv-loop μ-loop
+shared-slice-read-may-stand c = omega arith
 
-returns : tie.Need-returns Inv-loop μ-loop
-returns c =
-    let c₁ = c .before .before .before in
-    let c₂ = c₁ .before in
-    let l = c₁ .loop in
-    control-bad (now (c₂ .args .s)) (l .i) _ (omega arith) (c .if1 .taken) (l .inv .1)
+may-stand-requires : tie.Need-may-stand-requires Inv-loop μ-loop
+may-stand-requires c κs = search needs
 
 add-i : tie.Need-add-i Inv-loop μ-loop
 add-i c = omega arith
@@ -36,13 +33,20 @@ loop-less c = omega arith
 
 loop-again : tie.Need-loop-again Inv-loop μ-loop
 loop-again c =
-    let c₁ = c .before .before .before in
-    let c₂ = c₁ .before in
-    let l = c₁ .loop in
-    (omega arith, control-turn (now (c₂ .args .s)) (l .i) _ (omega arith) (c .if1 .left) (l .inv .1))
+    let a = c .before .before .before .before .before .before .args in
+    let l = c .before .before .before .before .loop in
+    (omega arith, control-turn (a .rule) (now (a .s)) (l .i) _ (omega arith) (sym (c .before .may-stand .ensures) ∙ c .if1 .taken) (l .inv .1))
+
+returns : tie.Need-returns Inv-loop μ-loop
+returns c =
+    let a = c .before .before .before .before .before .before .args in
+    let l = c .before .before .before .before .loop in
+    control-bad (a .rule) (now (a .s)) (l .i) _ (omega arith) (sym (c .before .may-stand .ensures) ∙ c .if1 .left) (l .inv .1)
 
 returns-2 : tie.Need-returns-2 Inv-loop μ-loop
-returns-2 c = control-end (now (c .before .before .args .s)) (c .before .loop .i) _ (c .loop-test .left) (c .before .loop .inv .1)
+returns-2 c =
+    let a = c .before .before .before .args in
+    control-end (a .rule) (now (a .s)) (c .before .loop .i) _ (c .loop-test .left) (c .before .loop .inv .1)
 
 pub no-control-spec : {M : Type 1} → statement M
 no-control-spec =
@@ -51,9 +55,10 @@ no-control-spec =
     Inv-loop
     μ-loop
     loop-holds
-    shared-slice-read-if1
-    returns
+    shared-slice-read-may-stand
+    may-stand-requires
     add-i
     loop-less
     loop-again
+    returns
     returns-2)
