@@ -2,7 +2,7 @@
 -- Assumes nothing.
 use mathlib.Core.Path.{_≡_, refl}
 use mathlib.Core.Bool.{Bool, true, false, _&&_, _||_, cond}
-use mathlib.Core.List.{List, [], _∷_, _++_}
+use mathlib.Core.List.{List, [], _∷_, _++_, List·Memᴰ, List·Memᴰ·head, List·Memᴰ·tail}
 use Prim.Native.Nat.{ℕ, _≤_, _<_}
 use native.Mathlib.Omega.{arith}
 use borrow.Author.Tests.{leb-true, eqb-true, ne-eqb, le-leb, lt-leb, lt-ltb}
@@ -11,11 +11,12 @@ use lib.ListN.{length, getD, drop}
 use Rattle.le.proofs.TestLaws.{and-left, and-right, and-no-right}
 use Rattle.text.specs.declared.decimal.Number.{Number}
 use Rattle.text.specs.declared.decimal.Number.the-variants.{Is, Not}
-use Rattle.text.specs.Utf8.{utf8}
-use Rattle.text.specs.Topic.{noControl, goodText, goodTopic}
+use Rattle.text.specs.declared.topic.Rule.the-variants.{Called}
+use Rattle.text.specs.Topic.{goodText, goodTopic}
 use Rattle.text.specs.Compare.{sameBytes}
 use Rattle.text.specs.Decimal.{numberOf}
 use Rattle.text.specs.Lines.{fields, field, tabbed}
+use Rattle.text.proofs.TopicLaws.{never-good}
 use Rattle.manifest.specs.Words.{modulesWord, grantWord, inWord, outWord}
 use Rattle.manifest.specs.Line.{atMost, oneTo, modulesIn, grantForm, holderIn}
 
@@ -47,11 +48,9 @@ module _ (l f : List ℕ) (ef : f ≡ field 0 l) (n : ℕ) (en : n ≡ length (f
 
 -- ---- a grant, by the tests that `grant_form`, `holder_in` and `Grant::at` make
 
--- a tab is a control byte
-tab-control : (f rest : List ℕ) → noControl (f ++ (9 ∷ rest)) ≡ false
-unfolding noControl
-tab-control [] rest = refl
-tab-control (x ∷ f) rest = and-no-right (leb 32 x) _ (tab-control f rest)
+tab-among : (f rest : List ℕ) → List·Memᴰ 9 (f ++ (9 ∷ rest))
+tab-among [] rest = List·Memᴰ·head refl
+tab-among (x ∷ f) rest = List·Memᴰ·tail (tab-among f rest)
 
 -- all that stands behind the third tab is a good topic just where it is the fourth field, that one is a good topic, and there are no more
 topic-alone : (ps : List (List ℕ)) → goodTopic (tabbed (drop 3 ps)) ≡ eqb (length ps) 4 && goodTopic (getD ps 3 [])
@@ -62,9 +61,8 @@ topic-alone (a ∷ b ∷ []) = refl
 topic-alone (a ∷ b ∷ c ∷ []) = refl
 topic-alone (a ∷ b ∷ c ∷ f ∷ []) = refl
 topic-alone (a ∷ b ∷ c ∷ f ∷ g ∷ ps) =
-    let t = f ++ (9 ∷ tabbed (g ∷ ps)) in
     rw (ne-eqb (length (a ∷ b ∷ c ∷ f ∷ g ∷ ps)) 4 (λ e. omega arith))
-    (and-no-right (leb 1 (length t)) _ (and-no-right (leb (length t) 2048) _ (and-no-right (utf8 t) _ (tab-control f (tabbed (g ∷ ps))))))
+    (never-good Called 9 refl 1 2048 (f ++ (9 ∷ tabbed (g ∷ ps))) (tab-among f (tabbed (g ∷ ps))))
 
 asked-first : (n b d g : Bool) → b && (d && (n && g)) ≡ n && (b && (d && g))
 asked-first true b d g = refl

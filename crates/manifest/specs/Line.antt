@@ -28,7 +28,7 @@ unfoldable pub modulesIn : List ℕ → ℕ
 modulesIn line = cond (eqb (length (fields line)) 2 && sameBytes (field 0 line) modulesWord) (oneTo 16 (field 1 line)) 0
 
 -- "`grant`, module number, `in` or `out`, topic", but for the module number. "A topic .. has a length within its sizes and is UTF-8 with no byte from 0
--- to 31": so it holds no tab, and no byte 10.
+-- to 31": so it holds no tab, and no byte 10. 02, A2: "no grant can name" a topic with byte 127.
 unfoldable pub grantForm : List ℕ → Bool
 grantForm line =
     eqb (length (fields line)) 4

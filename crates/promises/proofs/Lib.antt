@@ -25,6 +25,7 @@ pub mod StandingHolds
 pub mod TurnHolds
 pub mod PagesHold
 pub mod ListHolds
+pub mod NamingHolds
 pub mod NextHolds
 pub mod EdgesHold
 pub mod RunLaws

@@ -8,5 +8,6 @@ pub mod Diary
 pub mod Standing
 pub mod Turn
 pub mod ReadBack
+pub mod Naming
 pub mod Edges
 pub mod TwoWeaves

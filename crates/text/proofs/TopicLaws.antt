@@ -27,19 +27,20 @@ module _ (rule : Rule) (s : List ℕ) (i : ℕ) (all : Bool) where
   unfolding noControl
   control-end h inv = rw (drop-of-length-le s h) at inv
 
--- a byte that may not stand there: no text with it has none
-pub control-among : (rule : Rule) (b : ℕ) → mayStand rule b ≡ false → (s : List ℕ) → List·Memᴰ b s → noControl rule s ≡ false
+-- a text with a byte that may not stand there is not good
+control-among : (rule : Rule) (b : ℕ) → mayStand rule b ≡ false → (s : List ℕ) → List·Memᴰ b s → noControl rule s ≡ false
 unfolding noControl
 control-among rule b n (x ∷ s) (List·Memᴰ·head e) = rw (← e, n)
 control-among rule b n (x ∷ s) (List·Memᴰ·tail m) = and-no-right (mayStand rule x) _ (control-among rule b n s m)
 
-good-stands : (rule : Rule) (least most : ℕ) (s : List ℕ) → goodText rule least most s ≡ true → noControl rule s ≡ true
+pub never-good : (rule : Rule) (b : ℕ) → mayStand rule b ≡ false → (least most : ℕ) (s : List ℕ) → List·Memᴰ b s → goodText rule least most s ≡ false
 unfolding goodText
-good-stands rule least most s e = and-right (utf8 s) _ (and-right (leb (length s) most) _ (and-right (leb least (length s)) _ e))
+never-good rule b n least most s m =
+    and-no-right (leb least (length s)) _ (and-no-right (leb (length s) most) _ (and-no-right (utf8 s) _ (control-among rule b n s m)))
 
--- 02, A2: what a call or a grant names has no byte 127
+-- so none of a call or a grant has byte 127
 pub good-no-del : (least most : ℕ) (s : List ℕ) → goodText Called least most s ≡ true → List·Memᴰ 127 s → ⊥
-good-no-del least most s e m = true≢false (sym (good-stands Called least most s e) ∙ control-among Called 127 refl s m)
+good-no-del least most s e m = true≢false (sym e ∙ never-good Called 127 refl least most s m)
 
 -- what a call may write, a card may hold
 called-stands : (s : List ℕ) → noControl Called s ≡ true → noControl Kept s ≡ true

@@ -69,7 +69,7 @@ bytesAt m s = part (s .ptr) (s .len) m
 abbrev pub spanFine : List ℕ → Span → Bool
 spanFine m s = inside (s .ptr) (s .len) (length m)
 
--- check 5: the span, then "a length within its sizes and is UTF-8 with no byte from 0 to 31"
+-- check 5: the span, then "a length within its sizes and is UTF-8 with no byte from 0 to 31", and by 02, A2, no byte 127
 unfoldable pub topicFine : List ℕ → Span → Bool
 topicFine m s = spanFine m s && goodTopic (bytesAt m s)
 

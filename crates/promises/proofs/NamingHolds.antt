@@ -1,0 +1,128 @@
+-- Byte 127: no call and no grant names it, so no module is shown an event with it; a card that holds one mounts, and look-up shows it.
+-- Assumes nothing.
+use mathlib.Core.Path.{_≡_, refl, sym, subst, _∙_}
+use mathlib.Core.Bool.{true, false}
+use mathlib.Core.List.{List, [], _∷_, List·Memᴰ, List·Memᴰ·not-nil}
+use Prim.Native.Nat.{ℕ, _+_, _≤_}
+use native.Mathlib.Omega.{arith}
+use borrow.Author.Tests.{le-leb, eq-eqb}
+use lib.Dec.{lit<}
+use lib.ListN.{length}
+use lib.Seq.{take-all}
+use Rattle.le.specs.Splice.{zeros}
+use Rattle.le.proofs.TestLaws.{and-right, and-both}
+use Rattle.text.specs.Topic.{cardTopic}
+use Rattle.text.specs.Span.{inside}
+use Rattle.text.specs.Sizes.{totalLen}
+use Rattle.text.proofs.TopicLaws.{good-no-del}
+use Rattle.manifest.specs.Rights.{Right}
+use Rattle.manifest.specs.Saying.{isGood, manifestOf, rightsSaid, mayRead}
+use Rattle.manifest.proofs.SayingLaws.{rights-good, reader-good}
+use Rattle.record.specs.Record.{topicOf}
+use Rattle.record.specs.Good.{goodName}
+use Rattle.record.proofs.GoodLaws.{length-record, record-topic, record-good}
+use Rattle.record.proofs.WrittenLaws.{raw-payload}
+use Rattle.card.specs.Pick.{All}
+use Rattle.card.proofs.PickLaws.{all-map}
+use Rattle.card.proofs.RecordsLaws.{records-one}
+use Rattle.weave.specs.declared.Code.the-variants.{Fine}
+use Rattle.weave.specs.declared.Span.{Span}
+use Rattle.weave.specs.Moves.{cursorOf}
+use Rattle.weave.specs.Args.{writeArgs, readArgs, openArgs, bytesAt, topicFine, filterFine}
+use Rattle.host.specs.Hosts.{Lent, lentAs}
+use Rattle.mounts.specs.Mount.{mounted}
+use Rattle.reads.specs.Paging.{nextList}
+use Rattle.reads.specs.Reading.{readTopic, readList}
+use Rattle.promises.specs.Box.{World, recordsOn, cardRecords, Op, Begin, Ingress, Write, Read, Open, Next, Close, Return, LookUp, Part, step, isRefused, mountedAs}
+use Rattle.promises.specs.Diary.{firstPage}
+use Rattle.promises.specs.Turn.{listLeft, Allowed}
+use Rattle.promises.specs.Naming.{NoDel, namedIn, oneHeader, cardOf}
+use Rattle.promises.proofs.AcceptedHolds.{ingress-exactly, write-exactly, read-exactly, open-exactly}
+use Rattle.promises.proofs.DiaryHolds.{mount-agrees}
+use Rattle.promises.proofs.LifeHolds.{life-sane}
+use Rattle.promises.proofs.ListHolds.{all-allowed}
+use Rattle.promises.proofs.MountHolds.{mounts}
+use Rattle.promises.proofs.ReadBackHolds.{kept-found}
+use Rattle.promises.proofs.ReadHolds.{read-lists}
+use Rattle.promises.proofs.StagedLaws.{ingress-kind}
+
+-- ---- what is named
+
+topic-clean : (m : List ℕ) (s : Span) → topicFine m s ≡ true → NoDel (bytesAt m s)
+unfolding topicFine
+topic-clean m s e = good-no-del 1 2048 (bytesAt m s) (and-right (inside (s .ptr) (s .len) (length m)) _ e)
+
+filter-clean : (m : List ℕ) (s : Span) → filterFine m s ≡ true → NoDel (bytesAt m s)
+unfolding filterFine
+filter-clean m s e = good-no-del 0 64 (bytesAt m s) (and-right (inside (s .ptr) (s .len) (length m)) _ e)
+
+pub names-no-del : (w : World) (o : Op) → isRefused (step w o .said) ≡ false → NoDel (namedIn o)
+names-no-del w (Begin args) e = List·Memᴰ·not-nil
+names-no-del w (Ingress topic payload) e = good-no-del 1 2048 topic (ingress-exactly w topic payload .0 e .topic-good)
+names-no-del w (Write m a) e = topic-clean m (writeArgs m a .topic) (write-exactly w m a .0 e .topic)
+names-no-del w (Read m a) e = topic-clean m (readArgs m a .topic) (read-exactly w m a .0 e .topic)
+names-no-del w (Open m a) e = filter-clean m (openArgs m a .topic) (open-exactly w m a .0 e .filter)
+names-no-del w (Next m a) e = List·Memᴰ·not-nil
+names-no-del w (Close m a) e = List·Memᴰ·not-nil
+names-no-del w (Return code) e = List·Memᴰ·not-nil
+names-no-del w (LookUp id) e = List·Memᴰ·not-nil
+
+pub grants-no-del : (text : List ℕ) (g : Right) → List·Memᴰ g (rightsSaid (manifestOf text)) → NoDel (g .topic)
+grants-no-del text g m = good-no-del 1 2048 (g .topic) (rights-good text g m .topic)
+
+-- ---- what is shown
+
+abbrev Clean : List ℕ → Type 0
+Clean r = NoDel (topicOf r)
+
+pub lists-no-del : (w : World) (k : ℕ) → All (λ (r : List ℕ). NoDel (topicOf r)) (listLeft w k)
+unfolding nextList
+lists-no-del w k =
+    let may = mayRead (w .lent .text) (w .host .weave .turn) in
+    let c = cursorOf (w .host .weave) k in
+    all-map (Allowed may c) Clean
+    (λ r a. good-no-del 1 2048 (topicOf r) (reader-good (w .lent .text) (w .host .weave .turn) (topicOf r) (a .granted) .topic))
+    (listLeft w k) (all-allowed may c (cardRecords w))
+
+pub reads-no-del : (w : World) (m : List ℕ) (at : ℕ) → isRefused (step w (Read m at) .said) ≡ false
+    → All (λ (r : List ℕ). NoDel (topicOf r)) (readList (w .lent) (w .host) m at)
+reads-no-del w m at e =
+    all-map (λ (r : List ℕ). topicOf r ≡ readTopic m at) Clean (λ r q. subst NoDel (sym q) (names-no-del w (Read m at) e))
+    (readList (w .lent) (w .host) m at) (read-lists w m at .topics)
+
+-- ---- what a card holds
+
+module _ (staging text topic payload : List ℕ) (least : 65536 ≤ length staging) (most : length staging ≤ 1048576) (good : isGood (manifestOf text) ≡ true)
+    (kept : cardTopic topic ≡ true) (fits : totalLen (length topic) (length payload) ≤ 16777216) where
+  abbrev card′ : List ℕ
+  card′ = cardOf topic payload
+
+  abbrev l : Lent
+  l = lentAs staging card′ text
+
+  long : length card′ ≡ totalLen (length topic) (length payload)
+  long = length-record oneHeader (zeros 32) topic payload refl (omega arith)
+
+  name : goodName 0 topic ≡ true
+  unfolding goodName
+  name = and-both (cardTopic topic) _ kept refl
+
+  on-card : recordsOn card′ (length card′) ≡ card′ ∷ []
+  on-card =
+      rw (take-all (length card′) card′ (omega arith))
+      (records-one card′ 1 (record-good oneHeader (zeros 32) topic payload refl (omega arith) (lit< tt) ingress-kind name (raw-payload 1 payload cc)))
+
+  pub kept-mounts : mounted l (length card′) .code ≡ Fine
+  kept-mounts =
+      mounts l (length card′) .code
+      ∙ rw (le-leb 65536 (length staging) least, le-leb (length staging) 1048576 most, le-leb (length card′) 16777216 (omega (arith, long)),
+        le-leb (length card′) (length card′) (omega arith), good, on-card, eq-eqb (length card′ + 0) (length card′) (omega arith))
+
+  pub kept-shown : step (mountedAs l (length card′)) (LookUp 1) .said ≡ Part card′
+  kept-shown =
+      rw on-card at
+      (kept-found (mountedAs l (length card′)) (firstPage l (length card′)) (mount-agrees l (length card′) kept-mounts) (life-sane l (length card′) [] tt kept-mounts) 0
+      (rw on-card (lit< tt)))
+
+  pub kept-named : topicOf card′ ≡ topic
+  kept-named = record-topic oneHeader (zeros 32) topic payload refl (omega arith)

@@ -1,0 +1,34 @@
+-- 02, A2: "Topics, filters and manifests now refuse it with -5 .. Cards that already hold such a topic still mount; no grant can name it."
+-- Assumes nothing.
+use mathlib.Core.List.{List, [], List·Memᴰ}
+use Prim.Native.Nat.{ℕ}
+use Rattle.le.specs.Splice.{zeros}
+use Rattle.record.specs.declared.Header.{Header}
+use Rattle.record.specs.Record.{recordBytes}
+use Rattle.weave.specs.Args.{openArgs, bytesAt}
+use Rattle.writes.specs.Stage.{writtenTopic}
+use Rattle.reads.specs.Reading.{readTopic}
+use Rattle.promises.specs.Box.{Op, Begin, Ingress, Write, Read, Open, Next, Close, Return, LookUp}
+
+-- byte 127, DEL, is not among these
+abbrev pub NoDel : List ℕ → Type 0
+NoDel s = List·Memᴰ 127 s → ⊥
+
+-- the topic, or the filter, that a call names; the others name none
+abbrev pub namedIn : Op → List ℕ
+namedIn (Begin args) = []
+namedIn (Ingress topic payload) = topic
+namedIn (Write m a) = writtenTopic m a
+namedIn (Read m a) = readTopic m a
+namedIn (Open m a) = bytesAt m (openArgs m a .topic)
+namedIn (Next m a) = []
+namedIn (Close m a) = []
+namedIn (Return code) = []
+namedIn (LookUp id) = []
+
+-- a card of one event: raw, from no module, and on any topic that a card may keep
+abbrev pub oneHeader : Header
+oneHeader = record { id = record { 0 = 1 }; flags = 1; time = record { 0 = 0 }; agent = 0 }
+
+abbrev pub cardOf : List ℕ → List ℕ → List ℕ
+cardOf topic payload = recordBytes oneHeader (zeros 32) topic payload
