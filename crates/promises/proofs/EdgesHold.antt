@@ -14,7 +14,7 @@ use Rattle.le.specs.Le.{leAt, leBytes}
 use Rattle.le.specs.Splice.{part}
 use Rattle.le.proofs.TestLaws.{Tested, passes, fails, tested}
 use Rattle.text.specs.Utf8.{after, utf8From, utf8}
-use Rattle.text.specs.Topic.{goodTopic, goodText, noControl}
+use Rattle.text.specs.Topic.{goodTopic, goodFilter, cardTopic, goodText, noControl}
 use Rattle.text.specs.Span.{inside}
 use Rattle.text.specs.Sizes.{totalLen}
 use Rattle.text.specs.Flags.{goodFlags}
@@ -36,7 +36,7 @@ use Rattle.host.specs.Ending.{returnCheck, whyNot, fateOf, returnAnswer}
 use Rattle.promises.specs.Box.{World, Return, Ended, step}
 use Rattle.promises.specs.Outcome.{Returns}
 use Rattle.promises.specs.Turn.{listLeft}
-use Rattle.promises.specs.Edges.{Case, total, stored, flags, span, float, topic, text, window, twoLeft, returned, Holds, edges}
+use Rattle.promises.specs.Edges.{Case, total, stored, flags, span, float, topic, filter, kept, text, window, twoLeft, returned, Holds, edges}
 use Rattle.promises.proofs.NextHolds.{pageSays, next-says, two-left, window-none, limit-none}
 
 -- ---- answers that are found the same are equal
@@ -129,6 +129,8 @@ test (flags f b) = Bool·beq (goodFlags f) b
 test (span ptr len m b) = Bool·beq (inside ptr len m) b
 test (float x n) = eqb (canonical x) n
 test (topic s b) = Bool·beq (goodTopic s) b
+test (filter s b) = Bool·beq (goodFilter s) b
+test (kept s b) = Bool·beq (cardTopic s) b
 test (text s b) = Bool·beq (utf8 s) b
 test (window from to limit z) = (leb to from || eqb limit 0) && sameNumber (pos 0) z
 test (twoLeft k z) = sameNumber (twoSays k) z
@@ -142,6 +144,8 @@ met (flags f b) p = same-answer (goodFlags f) b p
 met (span ptr len m b) p = same-answer (inside ptr len m) b p
 met (float x n) p = eqb→eq (canonical x) n p
 met (topic s b) p = same-answer (goodTopic s) b p
+met (filter s b) p = same-answer (goodFilter s) b p
+met (kept s b) p = same-answer (cardTopic s) b p
 met (text s b) p = same-answer (utf8 s) b p
 met (window from to limit z) p =
     subst (λ (x : ℤ). Holds (window from to limit x)) (same-number (pos 0) z (right (leb to from || eqb limit 0) (sameNumber (pos 0) z) p))

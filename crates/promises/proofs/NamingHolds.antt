@@ -6,15 +6,17 @@ use mathlib.Core.List.{List, [], _∷_, List·Memᴰ, List·Memᴰ·not-nil}
 use Prim.Native.Nat.{ℕ, _+_, _≤_}
 use native.Mathlib.Omega.{arith}
 use borrow.Author.Tests.{le-leb, eq-eqb}
-use lib.Dec.{lit<}
+use lib.Dec.{leb, lit<}
 use lib.ListN.{length}
 use lib.Seq.{take-all}
 use Rattle.le.specs.Splice.{zeros}
 use Rattle.le.proofs.TestLaws.{and-right, and-both}
-use Rattle.text.specs.Topic.{cardTopic}
+use Rattle.text.specs.declared.topic.Rule.the-variants.{Kept}
+use Rattle.text.specs.Topic.{cardTopic, goodText, noControl}
 use Rattle.text.specs.Span.{inside}
 use Rattle.text.specs.Sizes.{totalLen}
 use Rattle.text.proofs.TopicLaws.{good-no-del}
+use Rattle.value.specs.declared.Span.{Span}
 use Rattle.manifest.specs.Rights.{Right}
 use Rattle.manifest.specs.Saying.{isGood, manifestOf, rightsSaid, mayRead}
 use Rattle.manifest.proofs.SayingLaws.{rights-good, reader-good}
@@ -26,7 +28,6 @@ use Rattle.card.specs.Pick.{All}
 use Rattle.card.proofs.PickLaws.{all-map}
 use Rattle.card.proofs.RecordsLaws.{records-one}
 use Rattle.weave.specs.declared.Code.the-variants.{Fine}
-use Rattle.weave.specs.declared.Span.{Span}
 use Rattle.weave.specs.Moves.{cursorOf}
 use Rattle.weave.specs.Args.{writeArgs, readArgs, openArgs, bytesAt, topicFine, filterFine}
 use Rattle.host.specs.Hosts.{Lent, lentAs}
@@ -36,7 +37,7 @@ use Rattle.reads.specs.Reading.{readTopic, readList}
 use Rattle.promises.specs.Box.{World, recordsOn, cardRecords, Op, Begin, Ingress, Write, Read, Open, Next, Close, Return, LookUp, Part, step, isRefused, mountedAs}
 use Rattle.promises.specs.Diary.{firstPage}
 use Rattle.promises.specs.Turn.{listLeft, Allowed}
-use Rattle.promises.specs.Naming.{NoDel, namedIn, oneHeader, cardOf}
+use Rattle.promises.specs.Naming.{NoDel, namedIn, GoodIn01, oneHeader, cardOf}
 use Rattle.promises.proofs.AcceptedHolds.{ingress-exactly, write-exactly, read-exactly, open-exactly}
 use Rattle.promises.proofs.DiaryHolds.{mount-agrees}
 use Rattle.promises.proofs.LifeHolds.{life-sane}
@@ -92,8 +93,17 @@ reads-no-del w m at e =
 
 -- ---- what a card holds
 
+all-stand : (s : List ℕ) → All (λ (b : ℕ). 32 ≤ b) s → noControl Kept s ≡ true
+unfolding noControl
+all-stand [] h = refl
+all-stand (b ∷ s) h = and-both (leb 32 b) _ (le-leb 32 b (h .0)) (all-stand s (h .1))
+
+card-topic : (s : List ℕ) → GoodIn01 s → cardTopic s ≡ true
+unfolding goodText
+card-topic s g = rw (le-leb 1 (length s) (g .least), le-leb (length s) 2048 (g .most), g .encoded) (all-stand s (g .no-control))
+
 module _ (staging text topic payload : List ℕ) (least : 65536 ≤ length staging) (most : length staging ≤ 1048576) (good : isGood (manifestOf text) ≡ true)
-    (kept : cardTopic topic ≡ true) (fits : totalLen (length topic) (length payload) ≤ 16777216) where
+    (kept : GoodIn01 topic) (fits : totalLen (length topic) (length payload) ≤ 16777216) where
   abbrev card′ : List ℕ
   card′ = cardOf topic payload
 
@@ -105,7 +115,7 @@ module _ (staging text topic payload : List ℕ) (least : 65536 ≤ length stagi
 
   name : goodName 0 topic ≡ true
   unfolding goodName
-  name = and-both (cardTopic topic) _ kept refl
+  name = and-both (cardTopic topic) _ (card-topic topic kept) refl
 
   on-card : recordsOn card′ (length card′) ≡ card′ ∷ []
   on-card =
@@ -115,8 +125,15 @@ module _ (staging text topic payload : List ℕ) (least : 65536 ≤ length stagi
   pub kept-mounts : mounted l (length card′) .code ≡ Fine
   kept-mounts =
       mounts l (length card′) .code
-      ∙ rw (le-leb 65536 (length staging) least, le-leb (length staging) 1048576 most, le-leb (length card′) 16777216 (omega (arith, long)),
-        le-leb (length card′) (length card′) (omega arith), good, on-card, eq-eqb (length card′ + 0) (length card′) (omega arith))
+      ∙ rw (
+        le-leb 65536 (length staging) least,
+        le-leb (length staging) 1048576 most,
+        le-leb (length card′) 16777216 (omega (arith, long)),
+        le-leb (length card′) (length card′) (omega arith),
+        good,
+        on-card,
+        eq-eqb (length card′ + 0) (length card′) (omega arith),
+      )
 
   pub kept-shown : step (mountedAs l (length card′)) (LookUp 1) .said ≡ Part card′
   kept-shown =

@@ -1,5 +1,5 @@
 -- THE PROMISES, each in one place and in the user's order. What they speak of is in specs/: Box, Checks, Mounting, Refusal, Accepted, Outcome, Diary, Standing,
--- ReadBack, Turn, TwoWeaves. That they are about the code is ContractsHold.antt; that they do not hold because nothing happens is the last part.
+-- ReadBack, Turn, Naming, TwoWeaves. That they are about the code is ContractsHold.antt; that they do not hold because nothing happens is the last part.
 -- Assumes nothing.
 use mathlib.Core.Path.{_≡_, ap}
 use mathlib.Core.Bool.{Bool, true, false}
@@ -10,7 +10,10 @@ use lib.IntN.{ℤ, pos, negsuc}
 use lib.ListN.{length, getD}
 use Rattle.le.specs.Splice.{splice, zeros}
 use Rattle.le.specs.Le.{Bytes}
-use Rattle.manifest.specs.Saying.{mayRead}
+use Rattle.text.specs.Sizes.{totalLen}
+use Rattle.manifest.specs.Rights.{Right}
+use Rattle.manifest.specs.Saying.{isGood, manifestOf, rightsSaid, mayRead}
+use Rattle.record.specs.Record.{topicOf}
 use Rattle.record.specs.Written.{Written}
 use Rattle.card.specs.Pick.{All, Sorted, only}
 use Rattle.card.specs.Records.{records, size}
@@ -41,6 +44,7 @@ use Rattle.promises.specs.Diary.{Diary, answerOf, ingressRecord, written
 use Rattle.promises.specs.Standing.{atMount, standing, Stands}
 use Rattle.promises.specs.Turn.{InTurn, handedOver, listLeft, FirstPart, Nexts, Allowed, ListedOf, AskedBy}
 use Rattle.promises.specs.ReadBack.{HasPage, ReadOf}
+use Rattle.promises.specs.Naming.{NoDel, namedIn, GoodIn01, cardOf}
 use Rattle.promises.specs.TwoWeaves.{saidOver, twoModules, theCalls, theAnswers}
 use Rattle.promises.proofs.AcceptedLaws.{lawful, fine-lawful, settle-ok}
 use Rattle.promises.proofs.OutcomeHolds.{committed-exactly}
@@ -63,6 +67,7 @@ use Rattle.promises.proofs.TidyHolds.{life-tidy}
 use Rattle.promises.proofs.StandingHolds.{life-stands}
 use Rattle.promises.proofs.PagesHold.{open-lists, first-part, end-exactly, drained}
 use Rattle.promises.proofs.ListHolds.{all-allowed, every-allowed, within-limit, all-listed}
+use Rattle.promises.proofs.NamingHolds.{names-no-del, grants-no-del, lists-no-del, reads-no-del, kept-mounts, kept-shown, kept-named}
 use Rattle.promises.proofs.CommitRuns.{oneModule, commits-one}
 use Rattle.promises.proofs.TwoRuns.{all-said}
 
@@ -334,6 +339,33 @@ none-left-out = every-allowed
 -- "cut to the limit"
 pub at-most-the-limit : (may : List ℕ → Bool) (c : Cursor) (rs : List (List ℕ)) → length (listOf may c rs) ≤ c .limit
 at-most-the-limit = within-limit
+
+-- ==== 02, A2: byte 127, DEL
+
+-- "Topics, filters and manifests now refuse it": no call that names it is accepted, and "no grant can name it"
+pub no-accepted-call-names-del : (w : World) (o : Op) → isRefused (step w o .said) ≡ false → NoDel (namedIn o)
+no-accepted-call-names-del = names-no-del
+
+pub no-grant-names-del : (text : List ℕ) (g : Right) → List·Memᴰ g (rightsSaid (manifestOf text)) → NoDel (g .topic)
+no-grant-names-del = grants-no-del
+
+-- so no event with it is in a list or in a read, whatever the card and the staged bytes hold
+pub no-list-has-del : (w : World) (k : ℕ) → All (λ (r : List ℕ). NoDel (topicOf r)) (listLeft w k)
+no-list-has-del = lists-no-del
+
+pub no-read-has-del : (w : World) (m : List ℕ) (at : ℕ) → isRefused (step w (Read m at) .said) ≡ false
+    → All (λ (r : List ℕ). NoDel (topicOf r)) (readList (w .lent) (w .host) m at)
+no-read-has-del = reads-no-del
+
+-- "Cards that already hold such a topic still mount": mount accepts an event on any topic that is good by 01, with byte 127 or not, and look-up shows it
+module _ (staging text topic payload : List ℕ) (least : 65536 ≤ length staging) (most : length staging ≤ 1048576) (good : isGood (manifestOf text) ≡ true)
+    (kept : GoodIn01 topic) (fits : totalLen (length topic) (length payload) ≤ 16777216) where
+  pub a-kept-topic-still-mounts : mounted (lentAs staging (cardOf topic payload) text) (length (cardOf topic payload)) .code ≡ Fine
+  a-kept-topic-still-mounts = kept-mounts staging text topic payload least most good kept fits
+
+  pub look-up-shows-a-kept-topic : (step (mountedAs (lentAs staging (cardOf topic payload) text) (length (cardOf topic payload))) (LookUp 1) .said ≡ Part (cardOf topic payload))
+      × (topicOf (cardOf topic payload) ≡ topic)
+  look-up-shows-a-kept-topic = (kept-shown staging text topic payload least most good kept fits, kept-named staging text topic payload least most good kept fits)
 
 -- ==== Nothing of this holds because nothing happens
 

@@ -1,4 +1,4 @@
--- 01, "Cases at the edges", as one table. `edges-hold` of proofs/EdgesHold.antt proves it under one claim.
+-- 01, "Cases at the edges", and 02's, as one table. `edges-hold` of proofs/EdgesHold.antt proves it under one claim.
 -- Assumes nothing.
 use mathlib.Core.Path.{_≡_}
 use mathlib.Core.Bool.{Bool, true, false}
@@ -8,7 +8,7 @@ use lib.IntN.{ℤ, pos}
 use lib.ListN.{length}
 use Rattle.le.specs.Splice.{zeros}
 use Rattle.text.specs.Utf8.{utf8}
-use Rattle.text.specs.Topic.{goodTopic}
+use Rattle.text.specs.Topic.{goodTopic, goodFilter, cardTopic}
 use Rattle.text.specs.Span.{inside}
 use Rattle.text.specs.Sizes.{totalLen}
 use Rattle.text.specs.Flags.{goodFlags}
@@ -37,6 +37,8 @@ pub data Case : Type 0 where
   span : ℕ → ℕ → ℕ → Bool → Case
   float : ℕ → ℕ → Case
   topic : List ℕ → Bool → Case
+  filter : List ℕ → Bool → Case
+  kept : List ℕ → Bool → Case
   text : List ℕ → Bool → Case
   window : ℕ → ℕ → ℕ → ℤ → Case
   twoLeft : ℕ → ℤ → Case
@@ -52,7 +54,7 @@ abbrev pub cursorAt : World → List ℕ → ℕ → Cursor
 cursorAt w m a = cursorOf (w .host .weave) (nextArgs m a .handle)
 
 -- what a case says: the total_len of a topic and a payload of these lengths; the data_len of the value at p of memory m; good flags; a span inside; a
--- float's bits as they are stored (`float-canonical` of value's proofs/ScalarLaws.antt ties `canonical` to the code's float); a good topic; UTF-8; whatever the box,
+-- float's bits as they are stored (`float-canonical` of value's proofs/ScalarLaws.antt ties `canonical` to the code's float); a good topic, a good filter, a topic that a card may keep; UTF-8; whatever the box,
 -- what a next answers whose cursor has this window and limit, and one into so many bytes where two records of 152 are left; and what becomes of a weave that is
 -- not spoiled by a return with this code
 abbrev pub Holds : Case → Type 0
@@ -62,6 +64,8 @@ Holds (flags f b) = goodFlags f ≡ b
 Holds (span ptr len m b) = inside ptr len m ≡ b
 Holds (float x n) = canonical x ≡ n
 Holds (topic s b) = goodTopic s ≡ b
+Holds (filter s b) = goodFilter s ≡ b
+Holds (kept s b) = cardTopic s ≡ b
 Holds (text s b) = utf8 s ≡ b
 Holds (window from to limit z) =
     (w : World) (m : List ℕ) (a : ℕ) → Ready w m a 0 → cursorAt w m a .from .0 ≡ from → cursorAt w m a .to .0 ≡ to → cursorAt w m a .limit ≡ limit
@@ -104,4 +108,8 @@ edges =
     ∷ twoLeft 151 (number NoRoom) ∷ twoLeft 303 (pos 152) ∷ twoLeft 304 (pos 304)
     -- P12: return 2: discard -5
     ∷ returned (pos 2) Bad
+    -- 02, A2: byte 127 refused, 126 accepted, and C2 80, which is not ASCII; on a card 127 too
+    ∷ topic (126 ∷ []) true ∷ topic (127 ∷ []) false ∷ topic (0xC2 ∷ 0x80 ∷ []) true
+    ∷ filter (126 ∷ []) true ∷ filter (127 ∷ []) false ∷ filter (0xC2 ∷ 0x80 ∷ []) true
+    ∷ kept (127 ∷ []) true
     ∷ []

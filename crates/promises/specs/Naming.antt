@@ -1,10 +1,15 @@
 -- 02, A2: "Topics, filters and manifests now refuse it with -5 .. Cards that already hold such a topic still mount; no grant can name it."
 -- Assumes nothing.
+use mathlib.Core.Path.{_≡_}
+use mathlib.Core.Bool.{true}
 use mathlib.Core.List.{List, [], List·Memᴰ}
-use Prim.Native.Nat.{ℕ}
+use Prim.Native.Nat.{ℕ, _≤_}
+use lib.ListN.{length}
 use Rattle.le.specs.Splice.{zeros}
+use Rattle.text.specs.Utf8.{utf8}
 use Rattle.record.specs.declared.Header.{Header}
 use Rattle.record.specs.Record.{recordBytes}
+use Rattle.card.specs.Pick.{All}
 use Rattle.weave.specs.Args.{openArgs, bytesAt}
 use Rattle.writes.specs.Stage.{writtenTopic}
 use Rattle.reads.specs.Reading.{readTopic}
@@ -26,7 +31,14 @@ namedIn (Close m a) = []
 namedIn (Return code) = []
 namedIn (LookUp id) = []
 
--- a card of one event: raw, from no module, and on any topic that a card may keep
+-- what a topic had to be before, and still has to be on a card. 01: "A topic or filter has a length within its sizes and is UTF-8 with no byte from 0 to 31"
+pub record GoodIn01 (topic : List ℕ) : Type 0 where
+  pub least : 1 ≤ length topic
+  pub most : length topic ≤ 2048
+  pub encoded : utf8 topic ≡ true
+  pub no-control : All (λ (b : ℕ). 32 ≤ b) topic
+
+-- a card of one event, raw and from no module
 abbrev pub oneHeader : Header
 oneHeader = record { id = record { 0 = 1 }; flags = 1; time = record { 0 = 0 }; agent = 0 }
 

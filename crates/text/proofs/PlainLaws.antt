@@ -80,7 +80,7 @@ plain-stands rule b e = go rule
     least =
         let m : bitAnd b 127 ≡ b % 2 ^ 7 = and-mask b 7 in
         let z : ((bitAnd b 127 + 96) / 2 ^ 7 % 2 ^ 1) * 2 ^ 7 ≡ 128 =
-            sym (and-high (bitAnd b 127 + 96) 1 7) ∙ eqb-true (bitAnd (bitAnd b 127 + 96) 128) 128 (and-left (lifted 96 128 b 0) _ e) in
+        sym (and-high (bitAnd b 127 + 96) 1 7) ∙ eqb-true (bitAnd (bitAnd b 127 + 96) 128) 128 (and-left (lifted 96 128 b 0) _ e) in
         omega arith
 
     go : (r : Rule) → mayStand r b ≡ true

@@ -8,7 +8,7 @@ use native.Mathlib.Omega.{arith}
 use lib.Dec.{leb}
 use lib.ListN.{length, getD, drop, drop-of-length-le}
 use Rattle.le.proofs.SpliceLaws.{drop-head}
-use Rattle.le.proofs.TestLaws.{and-left, and-right, and-both, and-no-right}
+use Rattle.le.proofs.TestLaws.{and-left, and-right, and-both, and-no-right, and-on}
 use Rattle.text.specs.declared.topic.Rule.{Rule}
 use Rattle.text.specs.declared.topic.Rule.the-variants.{Called, Kept}
 use Rattle.text.specs.Utf8.{utf8}
@@ -51,8 +51,4 @@ called-stands (b ∷ s) e =
 
 pub called-kept : (s : List ℕ) → goodTopic s ≡ true → cardTopic s ≡ true
 unfolding goodText
-called-kept s e =
-    let f = and-right (leb 1 (length s)) _ e in
-    let g = and-right (leb (length s) 2048) _ f in
-    and-both (leb 1 (length s)) _ (and-left (leb 1 (length s)) _ e)
-    (and-both (leb (length s) 2048) _ (and-left (leb (length s) 2048) _ f) (and-both (utf8 s) _ (and-left (utf8 s) _ g) (called-stands s (and-right (utf8 s) _ g))))
+called-kept s e = and-on (leb 1 (length s)) _ _ (and-on (leb (length s) 2048) _ _ (and-on (utf8 s) _ _ (called-stands s))) e
