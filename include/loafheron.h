@@ -21,6 +21,9 @@
  * ADDRESSES in a module's memory (`at`, and all inside argument records) are plain numbers that the host tests itself: a
  * wrong one is answered with -5.
  *
+ * A TOPIC has 1 to 2,048 bytes, a filter 0 to 64, in UTF-8 with no control byte (0 to 31, and 127): else -5, in a call, at
+ * ingress and in the manifest.
+ *
  * A REFUSAL leaves every lent byte and the state as before, with one exception: the first -6 marks the weave spoiled.
  *
  * WHAT THE PROMISES BUILD ON. What a function answers, and what it leaves in each lent byte, is proved for every state and
@@ -224,7 +227,8 @@ loafheron_returned loafheron_return(loafheron_state state, uint8_t *staging, siz
                                     size_t card_len, const uint8_t *manifest, size_t manifest_len, int64_t code);
 
 /* The record with this id: on the card for ids below `next`, else among the staged bytes. Changes nothing.
- * Nowhere: there is none, check 1 fails, or the walk to it meets an unsound record, itself included. */
+ * Nowhere: there is none, check 1 fails, or the walk to it meets an unsound record, itself included.
+ * It is the record as the card holds it: the topic of an old card may have byte 127, so mind what you print it on. */
 LOAFHERON_KEEP
 loafheron_place loafheron_look_up(loafheron_state state, const uint8_t *staging, size_t staging_len, const uint8_t *card,
                                   size_t card_len, const uint8_t *manifest, size_t manifest_len, uint64_t id);

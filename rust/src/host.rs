@@ -16,6 +16,9 @@ pub struct Refused {
 
 /// A mounted box. While it lives nobody else writes its buffers, and each state is used once, the last one: this is what promises 2
 /// and 3 build on.
+///
+/// A topic has 1 to 2,048 bytes, a filter 0 to 64, in UTF-8 with no control byte (0 to 31, and 127): else -5, in a call, at ingress and in
+/// the manifest.
 pub struct Host {
     archive: Here,
     state: State,
@@ -89,7 +92,8 @@ impl Host {
         lent::fate(r.outcome)
     }
 
-    /// The record with this id, on the card or in the staging; empty where there is none.
+    /// The record with this id, on the card or in the staging; empty where there is none. It is the record as the card holds it: the topic of
+    /// an old card may have byte 127, so mind what you print it on.
     #[must_use]
     pub fn look_up(&self, id: u64) -> &[u8] {
         match lent::place(self.archive.look_up(self.state, &self.buffers, id)) {

@@ -1,8 +1,8 @@
 //! Loafheron from Rust.
 //!
 //! [`host`] owns the buffers of a box and calls the proved host in the archive; [`raw`] is the archive as C has it; `model` is a twin
-//! of the host, written from the requirements (document 01) and docs/DECISIONS.md; [`differ`] runs both on the same calls and compares
-//! every answer, every field of the state and every lent byte.
+//! of the host, written from the requirements (document 01, changed by 02) and docs/DECISIONS.md; [`differ`] runs both on the same calls
+//! and compares every answer, every field of the state and every lent byte.
 //!
 //! # What the promises build on
 //!

@@ -28,6 +28,13 @@ fn write(host: &mut Host, memory: &mut [u8], topic: &[u8], payload: &[u8]) -> ho
     host.write(memory, 8)
 }
 
+/// A read of all that is staged with this topic, as far as 1,000 bytes go.
+fn read(host: &mut Host, memory: &mut [u8], topic: &[u8]) -> host::Answer {
+    memory[64..64 + topic.len()].copy_from_slice(topic);
+    put(memory, 8, &[64, topic.len() as u64, 0, 128, 1_000]);
+    host.read(memory, 8)
+}
+
 fn open(host: &mut Host, memory: &mut [u8], filter: &[u8]) -> host::Answer {
     memory[64..64 + filter.len()].copy_from_slice(filter);
     put(memory, 8, &[64, filter.len() as u64, 1, 9, 9, 0]);
@@ -110,4 +117,66 @@ fn a_wrong_memory_gets_its_code_and_the_box_goes_on() {
     assert_eq!(host.read(&mut large, 8), Err(-5));
     assert_eq!(host.read(&mut [], 8), Err(-5));
     assert_eq!(next(&mut host, &mut memory, 1, 152), Ok(152));
+}
+
+/// 02, A2: 127 is refused wherever a topic is named. 126 is good, and so is C2 80, which is no ASCII; 128 alone is no UTF-8.
+#[test]
+fn byte_127_is_refused_wherever_a_topic_is_named() {
+    for (text, good) in
+        [(&b"loop/\x7e"[..], true), (b"loop/\x7f", false), (b"loop/\x80", false), (b"loop/\xC2\x80", true)]
+    {
+        let answer = |value| if good { Ok(value) } else { Err(-5) };
+        let manifest = [MANIFEST, b"grant\t1\tin\t", text, b"\ngrant\t1\tout\t", text, b"\n"].concat();
+        let mounted = Host::mount(Buffers { manifest, ..buffers() }, 0);
+        assert_eq!(mounted.as_ref().map(|_| 0).map_err(|refused| refused.code), answer(0), "a grant of {text:?}");
+        let mut host = mounted.unwrap_or_else(|_| Host::mount(buffers(), 0).ok().unwrap());
+        let mut memory = vec![0; 65_536];
+        assert_eq!(host.begin(&weave(1_000, 0)), Ok(0));
+        assert_eq!(host.ingress(text, b""), answer(0), "ingress to {text:?}");
+        assert_eq!(write(&mut host, &mut memory, text, b"verse"), answer(0), "a write to {text:?}");
+        assert_eq!(read(&mut host, &mut memory, text), answer(136 + 144), "a read of {text:?}");
+        assert_eq!(open(&mut host, &mut memory, text), answer(1), "a filter {text:?}");
+        let (events, bytes) = if good { (2, 136 + 144) } else { (0, 0) };
+        assert_eq!(host.module_return(0), Fate::Committed { events, bytes });
+    }
+}
+
+/// Alone, and among the bytes that are looked at eight at a time.
+#[test]
+fn byte_127_is_refused_at_every_place_of_a_topic() {
+    let mut host = Host::mount(buffers(), 0).ok().unwrap();
+    assert_eq!(host.begin(&weave(0, 0)), Ok(0));
+    for len in 1..=25 {
+        for at in 0..len {
+            let mut topic = vec![b'a'; len];
+            for (byte, answer) in [(126, Ok(0)), (127, Err(-5)), (128, Err(-5))] {
+                topic[at] = byte;
+                assert_eq!(host.ingress(&topic, b""), answer, "{topic:?}");
+            }
+        }
+    }
+}
+
+/// "Cards that already hold such a topic still mount; no grant can name it": look-up shows it, no list has it.
+#[test]
+fn a_card_with_byte_127_mounts_and_look_up_alone_shows_it() {
+    let (mut host, _) = session(60);
+    assert_eq!(host.module_return(0), Fate::Committed { events: 1, bytes: 152 });
+    let (mut buffers, used) = host.into_buffers();
+    // the topic of the first record, as the rule of 01 let it be written
+    buffers.card[128..137].copy_from_slice(b"loop\x7ftake");
+    let mut host = Host::mount(buffers, used).ok().unwrap();
+    assert_eq!(host.state().next, 3);
+    assert_eq!(&host.look_up(1)[128..137], b"loop\x7ftake");
+    assert_eq!(&host.look_up(1)[144..149], b"verse");
+    let mut memory = vec![0; 65_536];
+    assert_eq!(host.begin(&weave(1_000, 0)), Ok(0));
+    for (handle, filter) in [(1, &b""[..]), (2, b"loop")] {
+        assert_eq!(open(&mut host, &mut memory, filter), Ok(handle));
+        assert_eq!(next(&mut host, &mut memory, handle, 1_000), Ok(152));
+        assert_eq!(&memory[8 + 144..8 + 150], b"chorus");
+        assert_eq!(next(&mut host, &mut memory, handle, 1_000), Ok(0));
+    }
+    assert_eq!(open(&mut host, &mut memory, b"loop\x7f"), Err(-5));
+    assert_eq!(host.module_return(0), Fate::Committed { events: 0, bytes: 0 });
 }

@@ -22,7 +22,18 @@ pub fn zero(s: &[u8]) -> bool {
     s.iter().all(|b| *b == 0)
 }
 
+/// Every byte is looked at, with no stop at the first that is found: so the compiler takes many at a time.
+fn has_control(s: &[u8]) -> bool {
+    s.iter().fold(false, |found, b| found | b.is_ascii_control())
+}
+
+/// A topic of a call or a grant.
 pub fn good_topic(s: &[u8]) -> bool {
+    (1..=2_048).contains(&s.len()) && !has_control(s) && std::str::from_utf8(s).is_ok()
+}
+
+/// A topic of a record: one of an old card may have byte 127.
+pub fn card_topic(s: &[u8]) -> bool {
     (1..=2_048).contains(&s.len()) && s.iter().all(|b| *b >= 32) && std::str::from_utf8(s).is_ok()
 }
 

@@ -142,9 +142,10 @@ pub fn read(d: &mut Dice, twin: &mut Twin, topics: &[Vec<u8>], most: u64, harm: 
 }
 
 pub fn open(d: &mut Dice, twin: &mut Twin, topics: &[Vec<u8>], harm: Harm) -> Call {
-    let mut filter = match d.below(4) {
+    let mut filter = match d.below(6) {
         0 => Vec::new(),
         1 => topic(d, topics),
+        2 => stock::edge_topic(d),
         _ => b"loop/take".to_vec(),
     };
     let n = if d.one_in(6) { 63 + d.index(3) } else { d.index(filter.len() + 1) };

@@ -6,7 +6,7 @@ use crate::model::value::{Kind, Value};
 
 /// Good topics that are near one another: one is the head of the next, or differs in a byte.
 pub fn topics() -> Vec<Vec<u8>> {
-    let mut all: Vec<Vec<u8>> = ["loop/take", "loop/take2", "loop/tak", "loop/", "a", "é/ß/漢/𝄞", "\u{7f}~ !"]
+    let mut all: Vec<Vec<u8>> = ["loop/take", "loop/take2", "loop/tak", "loop/", "a", "é/ß/漢/𝄞", "\u{80}~ !"]
         .iter()
         .map(|s| s.as_bytes().to_vec())
         .collect();
@@ -16,6 +16,20 @@ pub fn topics() -> Vec<Vec<u8>> {
     all.push([b"loop/", &[b'x'; 300][..]].concat());
     all.push(vec![b'y'; 2_048]);
     all
+}
+
+/// Topics that only a card may hold: byte 127 in front, in the middle, behind more than eight others, beside longer characters.
+pub fn old_topics() -> [&'static [u8]; 5] {
+    [b"\x7f~ !", b"loop\x7ftake", b"loop/take/\x7f", "é/\u{7f}/𝄞".as_bytes(), b"\x7f"]
+}
+
+/// A longer topic with 127, or what is next to it, at one of its first 17 places: 126, 128 alone, the character C2 80.
+pub fn edge_topic(d: &mut Dice) -> Vec<u8> {
+    let mut topic = b"loop/take/of/verse/2".to_vec();
+    let edge = *d.pick(&[&b"\x7e"[..], b"\x7f", b"\x7f", b"\x80", b"\xC2\x80"]);
+    let at = d.index(17);
+    topic.splice(at..=at, edge.iter().copied());
+    topic
 }
 
 /// Bytes that are no topic, or just are one.
@@ -34,12 +48,14 @@ pub fn odd_topic(d: &mut Dice) -> Vec<u8> {
         b"tab\there",
         b"line\n",
     ];
-    match d.below(4) {
+    match d.below(6) {
         0 => vec![b'z'; 2_047 + d.index(4)],
         1 => {
             let n = d.index(20);
             d.bytes(n)
         }
+        2 => d.pick(&old_topics()).to_vec(),
+        3 => edge_topic(d),
         _ => d.pick(&odd).to_vec(),
     }
 }
@@ -72,10 +88,10 @@ pub fn grant(d: &mut Dice, modules: u64, topics: &[Vec<u8>]) -> Vec<u8> {
 pub fn odd_manifest(d: &mut Dice, good: &[u8]) -> Vec<u8> {
     let mut text = good.to_vec();
     let at = d.index(text.len());
-    match d.below(9) {
+    match d.below(10) {
         0 => text.truncate(at),
         1 => text[at] = d.byte(),
-        2 => text.insert(at, *d.pick(b"\t\n 0 1\r\x1f+")),
+        2 => text.insert(at, *d.pick(b"\t\n 0 1\r\x1f+~\x7f")),
         3 => drop(text.remove(at)),
         4 => text.extend(b"grant\t17\tin\ta\n"),
         5 => {
@@ -109,6 +125,10 @@ pub fn odd_manifest(d: &mut Dice, good: &[u8]) -> Vec<u8> {
                     b"modules\t\n",
                 ])
                 .to_vec()
+        }
+        8 => {
+            let topic = if d.one_in(2) { d.pick(&old_topics()).to_vec() } else { edge_topic(d) };
+            text.extend([b"grant\t1\tin\t", &topic[..], b"\n"].concat());
         }
         _ => {
             // full to the last byte, or one more
@@ -145,9 +165,9 @@ pub fn value(d: &mut Dice) -> Value {
     Value { flags: d.word() as u32, kind }
 }
 
-/// An event that may stand on a card.
+/// An event that may stand on a card. One in five has a topic that no call may name.
 pub fn event(d: &mut Dice, id: u64, topics: &[Vec<u8>]) -> Event {
-    let topic = d.pick(topics).clone();
+    let topic = if d.one_in(5) { d.pick(&old_topics()).to_vec() } else { d.pick(topics).clone() };
     let agent = if topic == PANIC { 0 } else { d.below(17) };
     let flags = if agent == 0 { 1 } else { *d.pick(&[1, 2, 9, 10]) };
     let n = d.index(40);
@@ -159,4 +179,42 @@ pub fn event(d: &mut Dice, id: u64, topics: &[Vec<u8>]) -> Event {
 /// A sound card of so many records, and where each begins.
 pub fn card(d: &mut Dice, records: u64, topics: &[Vec<u8>]) -> Vec<u8> {
     (1..=records).flat_map(|id| event(d, id, topics).stored()).collect()
+}
+
+#[cfg(test)]
+mod tests {
+    use super::*;
+    use crate::model::manifest::Manifest;
+    use crate::model::text::{card_topic, good_topic};
+    use std::collections::HashSet;
+
+    #[test]
+    fn each_list_of_topics_is_what_it_says() {
+        assert!(topics().iter().all(|t| good_topic(t)));
+        assert!(old_topics().iter().all(|t| card_topic(t) && !good_topic(t)));
+    }
+
+    #[test]
+    fn good_manifests_are_good() {
+        let d = &mut Dice::new(1);
+        for modules in 1..=16 {
+            assert!(Manifest::parse(&manifest(d, modules, &topics())).is_some());
+        }
+    }
+
+    /// 126, 127, 128 alone and C2 80, each at each of 17 places.
+    #[test]
+    fn edges_of_the_rule_come_up_at_each_place() {
+        let d = &mut Dice::new(1);
+        let edge = |t: Vec<u8>| {
+            let at = t.iter().position(|b| 126 <= *b).unwrap();
+            (at, t[at..].iter().copied().filter(|b| 126 <= *b).collect::<Vec<u8>>())
+        };
+        let met: HashSet<(usize, Vec<u8>)> = (0..2_000).map(|_| edge(edge_topic(d))).collect();
+        for at in 0..=16 {
+            for edge in [&[126][..], &[127], &[128], &[0xC2, 0x80]] {
+                assert!(met.contains(&(at, edge.to_vec())), "{edge:?} at {at}");
+            }
+        }
+    }
 }

@@ -1,5 +1,5 @@
 //! The model and the archive side by side: one call goes to both, and everything is compared.
-use super::view;
+use super::{del, view};
 use crate::lent::{self, Buffers, Caller, Fate, Place};
 use crate::model::{self, Lent, State};
 use crate::raw;
@@ -43,7 +43,7 @@ pub struct Difference(pub String);
 
 pub type Agreed<T> = Result<T, Difference>;
 
-/// How often each operation gave each answer.
+/// How often each operation gave each answer; and among these, how often byte 127 had to do with it.
 pub type Tally = BTreeMap<(&'static str, String), u64>;
 
 pub struct Twin {
@@ -116,10 +116,13 @@ impl Twin {
                 println!("       from a state with {}", fields(&plain, &before));
             }
         }
-        let models = self.models(&call);
+        let models = models(&mut self.state, &mut self.lent, &call);
         let (ours, state) = self.ours(&call, before);
         self.calls += 1;
         *self.tally.entry((name(&call), short(&models))).or_insert(0) += 1;
+        if let Some(met) = del::met(&call, &models, &self.state, &self.lent) {
+            *self.tally.entry((name(&call), met.into())).or_insert(0) += 1;
+        }
         if self.aloud {
             println!("       {models:?}");
         }
@@ -139,31 +142,6 @@ impl Twin {
             return Ok(());
         }
         Err(Difference(format!("{}\n  {}", told(call, &self.lent.memory), why())))
-    }
-
-    fn models(&mut self, call: &Call) -> Said {
-        let (state, lent) = (&mut self.state, &mut self.lent);
-        let answer = match call {
-            Call::Mount { used } => {
-                let (said, next) = State::mount(lent, *used);
-                *state = next;
-                let (code, at) = said.err().unwrap_or((0, 0));
-                return Said::Mounted { code, at };
-            }
-            Call::Return { code } => return Said::Fate(plain(state.module_return(lent, *code))),
-            Call::LookUp { id } => return Said::Place(plain_place(state.look_up(lent, *id))),
-            Call::Begin { args } => state.begin(lent, args),
-            Call::Ingress { topic, payload } => state.ingress(lent, topic, payload),
-            Call::Write { at } => state.write(lent, *at),
-            Call::Read { at } => state.read(lent, *at),
-            Call::Open { at } => state.open(lent, *at),
-            Call::Next { at } => state.next(lent, *at),
-            Call::Close { at } => state.close(lent, *at),
-        };
-        match answer {
-            Ok(value) => Said::Answer { code: 0, value },
-            Err(code) => Said::Answer { code, value: 0 },
-        }
     }
 
     fn ours(&mut self, call: &Call, state: raw::State) -> (Said, raw::State) {
@@ -190,6 +168,31 @@ impl Twin {
             Call::Close { at } => archive.close(state, memory, b, *at),
         };
         (Said::Answer { code: a.code, value: a.value }, a.state)
+    }
+}
+
+/// What the model says.
+pub fn models(state: &mut State, lent: &mut Lent, call: &Call) -> Said {
+    let answer = match call {
+        Call::Mount { used } => {
+            let (said, next) = State::mount(lent, *used);
+            *state = next;
+            let (code, at) = said.err().unwrap_or((0, 0));
+            return Said::Mounted { code, at };
+        }
+        Call::Return { code } => return Said::Fate(plain(state.module_return(lent, *code))),
+        Call::LookUp { id } => return Said::Place(plain_place(state.look_up(lent, *id))),
+        Call::Begin { args } => state.begin(lent, args),
+        Call::Ingress { topic, payload } => state.ingress(lent, topic, payload),
+        Call::Write { at } => state.write(lent, *at),
+        Call::Read { at } => state.read(lent, *at),
+        Call::Open { at } => state.open(lent, *at),
+        Call::Next { at } => state.next(lent, *at),
+        Call::Close { at } => state.close(lent, *at),
+    };
+    match answer {
+        Ok(value) => Said::Answer { code: 0, value },
+        Err(code) => Said::Answer { code, value: 0 },
     }
 }
 

@@ -203,6 +203,28 @@ mod tests {
         assert_eq!((a.code, a.state.late), (-2, 1));
     }
 
+    /// A staged record whose topic gets byte 127 by hand stays sound: no read has it, look-up shows it, the last return commits it.
+    #[test]
+    fn a_staged_record_may_hold_byte_127() {
+        let archive = Here::default();
+        let mut b = buffers();
+        let begun = archive.begin(archive.mount(&b, 0).state, &mut b, &weave_args()).state;
+        let staged = archive.ingress(begun, &mut b, b"loop/take", b"verse").state;
+        b.staging[128 + 8] = 127;
+        let mut memory = [0; 256];
+        for (at, word) in [(8, 64), (16, 9), (32, 80), (40, 160)] {
+            memory[at] = word;
+        }
+        memory[64..73].copy_from_slice(b"loop/take");
+        let a = archive.read(staged, &mut memory, &b, 8);
+        assert_eq!((a.code, a.value), (0, 0));
+        assert_eq!(place(archive.look_up(staged, &b, 1)), Place::Staging { at: 0, len: 152 });
+        let r = archive.module_return(staged, &mut b, 0);
+        assert_eq!(fate(r.outcome), Fate::Committed { events: 1, bytes: 152 });
+        assert_eq!(&b.card[128..137], b"loop/tak\x7f");
+        assert_eq!(archive.mount(&b, 152).code, 0);
+    }
+
     #[test]
     fn the_archive_has_the_state_of_the_header() {
         assert_eq!(Here::default().state_size(), size_of::<State>() as u64);

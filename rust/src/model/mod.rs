@@ -1,4 +1,4 @@
-//! A twin of the host, written from the requirements (document 01) and docs/DECISIONS.md, not from the proved definitions.
+//! A twin of the host, written from the requirements (document 01, changed by 02) and docs/DECISIONS.md, not from the proved definitions.
 //!
 //! It is plain and slow on purpose: a card is parsed into a `Vec<Event>`, a record is sound when it is what its own
 //! event would be written as, a list is a chain of iterator steps. Nothing here walks bytes as the host does.

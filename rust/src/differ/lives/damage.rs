@@ -8,9 +8,11 @@ fn change(d: &mut Dice, twin: &mut Twin, which: Buffer, at: usize) -> u8 {
         _ => &twin.lent.staging,
     };
     let was = buffer[at];
-    let now = match d.below(3) {
+    let now = match d.below(4) {
         0 => was ^ (1 << d.below(8)),
         1 => was.wrapping_add(1),
+        // in a topic it may stand
+        2 => 127,
         _ => d.byte(),
     };
     twin.poke(which, at as u64, &[now]);
@@ -125,7 +127,7 @@ pub fn manifest(d: &mut Dice, twin: &mut Twin) -> Agreed<()> {
 /// A call while the manifest has another byte, under the same length.
 fn under_way(d: &mut Dice, twin: &mut Twin, h: &Habits, good: &[u8]) -> Agreed<()> {
     let at = d.below(good.len() as u64);
-    let byte = if d.one_in(2) { d.byte() } else { *d.pick(b"123456789\t\nin") };
+    let byte = if d.one_in(2) { d.byte() } else { *d.pick(b"123456789\t\nin~\x7f") };
     twin.poke(Buffer::Manifest, at, &[byte]);
     let call = any_call(d, twin, h);
     twin.call(call)?;

@@ -36,12 +36,12 @@ fn twist(d: &mut Dice, twin: &mut Twin, modules: u64) {
     }
 }
 
-/// A slot of any content, free or not.
+/// A slot of any content, free or not. Its filter may be one that no tl_open takes: the head of an old card's topic.
 fn any_slot(d: &mut Dice, next: u64) -> Slot {
     let mut slot = Slot::FREE;
     slot.handle = d.below(6);
     slot.cursor.size = d.below(8);
-    slot.cursor.filter[..4].copy_from_slice(b"loop");
+    slot.cursor.filter[..4].copy_from_slice(*d.pick(&[b"loop", b"loop", b"\x7f~ !"]));
     slot.cursor.filter[40] = d.byte();
     slot.cursor.from = d.edge(1);
     slot.cursor.to = d.edge(next);
