@@ -11,10 +11,10 @@ use text::lines::line;
 fn case(l: &[u8]) {
     saying::echo(l);
     let k = which(
-        b"utf8\ttopic\ttopic of\ttopic on a card of\tfilter of\tfields of\tfield\tline at\tclosed",
+        b"utf8\ttopic\ttopic on a card\tfilter\ttopic of\ttopic on a card of\tfilter of\tfields of\tfield\tline at\tclosed",
         field(l, 0),
     );
-    if k < 9 {
+    if k < 11 {
         texts::case(k, l);
         return;
     }

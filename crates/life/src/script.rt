@@ -61,7 +61,7 @@ struct Call {
     at: u64,
 }
 
-// By its name, with the arguments that are laid at 8; or `call name address`.
+// By its name, with the arguments that are laid at 8; or `call name address`, and `call ingress`, which has no address.
 fn called(l: &[u8]) -> Call {
     let k = lay::call_of(field(l, 0));
     if k < 6 {
@@ -96,6 +96,9 @@ fn done(
         return staged(h, k, l, memory, staging, card, text);
     }
     let c = called(l);
+    if c.k == 6 {
+        return staged(h, 5, l, memory, staging, card, text);
+    }
     calls::by_module(h, c.k, memory, staging, card, text, c.at)
 }
 
