@@ -3,19 +3,21 @@
 use mathlib.Core.Path.{_≡_, refl, sym, subst, _∙_}
 use mathlib.Core.Bool.{true, false}
 use mathlib.Core.List.{List, [], _∷_, List·Memᴰ, List·Memᴰ·not-nil}
+use mathlib.Core.Logic.{_↔_}
 use Prim.Native.Nat.{ℕ, _+_, _≤_}
 use native.Mathlib.Omega.{arith}
-use borrow.Author.Tests.{le-leb, eq-eqb}
+use borrow.Author.Tests.{leb-true, le-leb, eq-eqb}
 use lib.Dec.{leb, lit<}
 use lib.ListN.{length}
 use lib.Seq.{take-all}
 use Rattle.le.specs.Splice.{zeros}
-use Rattle.le.proofs.TestLaws.{and-right, and-both}
-use Rattle.text.specs.declared.topic.Rule.the-variants.{Kept}
+use Rattle.le.proofs.TestLaws.{and-left, and-right, and-both}
+use Rattle.text.specs.declared.topic.Rule.the-variants.{Called, Kept}
 use Rattle.text.specs.Topic.{cardTopic, goodText, noControl}
+use Rattle.text.specs.Utf8.{utf8}
 use Rattle.text.specs.Span.{inside}
 use Rattle.text.specs.Sizes.{totalLen}
-use Rattle.text.proofs.TopicLaws.{good-no-del}
+use Rattle.text.proofs.TopicLaws.{good-no-del, called-kept, kept-called}
 use Rattle.value.specs.declared.Span.{Span}
 use Rattle.manifest.specs.Rights.{Right}
 use Rattle.manifest.specs.Saying.{isGood, manifestOf, rightsSaid, mayRead}
@@ -46,6 +48,38 @@ use Rattle.promises.proofs.MountHolds.{mounts}
 use Rattle.promises.proofs.ReadBackHolds.{kept-found}
 use Rattle.promises.proofs.ReadHolds.{read-lists}
 use Rattle.promises.proofs.StagedLaws.{ingress-kind}
+
+-- ---- what may be named, and what a card may keep, in the documents' own words
+
+bytes-kept : (s : List ℕ) → (noControl Kept s ≡ true) ↔ All (λ (b : ℕ). 32 ≤ b) s
+unfolding noControl
+bytes-kept [] = (λ e. tt, λ h. refl)
+bytes-kept (b ∷ s) = (
+  λ e. (leb-true 32 b (and-left (leb 32 b) _ e), bytes-kept s .0 (and-right (leb 32 b) _ e)),
+  λ h. and-both (leb 32 b) _ (le-leb 32 b (h .0)) (bytes-kept s .1 (h .1)),
+)
+
+module _ (least most : ℕ) (s : List ℕ) where
+  pub kept-exactly : (goodText Kept least most s ≡ true) ↔ GoodIn01 least most s
+  unfolding goodText
+  kept-exactly = (
+    λ e.
+        let f = and-right (leb least (length s)) _ e in
+        let g = and-right (leb (length s) most) _ f in
+        record {
+          at-least = leb-true least (length s) (and-left (leb least (length s)) _ e);
+          at-most = leb-true (length s) most (and-left (leb (length s) most) _ f);
+          encoded = and-left (utf8 s) _ g;
+          no-control = bytes-kept s .0 (and-right (utf8 s) _ g);
+        },
+    λ g. rw (le-leb least (length s) (g .at-least), le-leb (length s) most (g .at-most), g .encoded) (bytes-kept s .1 (g .no-control)),
+  )
+
+  pub called-exactly : (goodText Called least most s ≡ true) ↔ (GoodIn01 least most s × NoDel s)
+  called-exactly = (
+    λ e. (kept-exactly .0 (called-kept least most s e), good-no-del least most s e),
+    λ g. kept-called least most s (g .1) (kept-exactly .1 (g .0)),
+  )
 
 -- ---- what is named
 
@@ -93,17 +127,8 @@ reads-no-del w m at e =
 
 -- ---- what a card holds
 
-all-stand : (s : List ℕ) → All (λ (b : ℕ). 32 ≤ b) s → noControl Kept s ≡ true
-unfolding noControl
-all-stand [] h = refl
-all-stand (b ∷ s) h = and-both (leb 32 b) _ (le-leb 32 b (h .0)) (all-stand s (h .1))
-
-card-topic : (s : List ℕ) → GoodIn01 s → cardTopic s ≡ true
-unfolding goodText
-card-topic s g = rw (le-leb 1 (length s) (g .least), le-leb (length s) 2048 (g .most), g .encoded) (all-stand s (g .no-control))
-
 module _ (staging text topic payload : List ℕ) (least : 65536 ≤ length staging) (most : length staging ≤ 1048576) (good : isGood (manifestOf text) ≡ true)
-    (kept : GoodIn01 topic) (fits : totalLen (length topic) (length payload) ≤ 16777216) where
+    (kept : GoodIn01 1 2048 topic) (fits : totalLen (length topic) (length payload) ≤ 16777216) where
   abbrev card′ : List ℕ
   card′ = cardOf topic payload
 
@@ -115,7 +140,7 @@ module _ (staging text topic payload : List ℕ) (least : 65536 ≤ length stagi
 
   name : goodName 0 topic ≡ true
   unfolding goodName
-  name = and-both (cardTopic topic) _ (card-topic topic kept) refl
+  name = and-both (cardTopic topic) _ (kept-exactly 1 2048 topic .1 kept) refl
 
   on-card : recordsOn card′ (length card′) ≡ card′ ∷ []
   on-card =

@@ -10,6 +10,7 @@ use lib.IntN.{ℤ, pos, negsuc}
 use lib.ListN.{length, getD}
 use Rattle.le.specs.Splice.{splice, zeros}
 use Rattle.le.specs.Le.{Bytes}
+use Rattle.text.specs.Topic.{goodTopic, cardTopic, goodFilter}
 use Rattle.text.specs.Sizes.{totalLen}
 use Rattle.manifest.specs.Rights.{Right}
 use Rattle.manifest.specs.Saying.{isGood, manifestOf, rightsSaid, mayRead}
@@ -67,7 +68,7 @@ use Rattle.promises.proofs.TidyHolds.{life-tidy}
 use Rattle.promises.proofs.StandingHolds.{life-stands}
 use Rattle.promises.proofs.PagesHold.{open-lists, first-part, end-exactly, drained}
 use Rattle.promises.proofs.ListHolds.{all-allowed, every-allowed, within-limit, all-listed}
-use Rattle.promises.proofs.NamingHolds.{names-no-del, grants-no-del, lists-no-del, reads-no-del, kept-mounts, kept-shown, kept-named}
+use Rattle.promises.proofs.NamingHolds.{kept-exactly, called-exactly, names-no-del, grants-no-del, lists-no-del, reads-no-del, kept-mounts, kept-shown, kept-named}
 use Rattle.promises.proofs.CommitRuns.{oneModule, commits-one}
 use Rattle.promises.proofs.TwoRuns.{all-said}
 
@@ -342,7 +343,17 @@ at-most-the-limit = within-limit
 
 -- ==== 02, A2: byte 127, DEL
 
--- "Topics, filters and manifests now refuse it": no call that names it is accepted, and "no grant can name it"
+-- "Topics, filters and manifests now refuse it": exactly these are good there; a card keeps what was good by 01
+pub a-topic-is-good-exactly-when : (s : List ℕ) → (goodTopic s ≡ true) ↔ (GoodIn01 1 2048 s × NoDel s)
+a-topic-is-good-exactly-when = called-exactly 1 2048
+
+pub a-filter-is-good-exactly-when : (s : List ℕ) → (goodFilter s ≡ true) ↔ (GoodIn01 0 64 s × NoDel s)
+a-filter-is-good-exactly-when = called-exactly 0 64
+
+pub a-card-keeps-a-topic-exactly-when : (s : List ℕ) → (cardTopic s ≡ true) ↔ GoodIn01 1 2048 s
+a-card-keeps-a-topic-exactly-when = kept-exactly 1 2048
+
+-- so no call that names it is accepted, and "no grant can name it"
 pub no-accepted-call-names-del : (w : World) (o : Op) → isRefused (step w o .said) ≡ false → NoDel (namedIn o)
 no-accepted-call-names-del = names-no-del
 
@@ -359,7 +370,7 @@ no-read-has-del = reads-no-del
 
 -- "Cards that already hold such a topic still mount": mount accepts an event on any topic that is good by 01, with byte 127 or not, and look-up shows it
 module _ (staging text topic payload : List ℕ) (least : 65536 ≤ length staging) (most : length staging ≤ 1048576) (good : isGood (manifestOf text) ≡ true)
-    (kept : GoodIn01 topic) (fits : totalLen (length topic) (length payload) ≤ 16777216) where
+    (kept : GoodIn01 1 2048 topic) (fits : totalLen (length topic) (length payload) ≤ 16777216) where
   pub a-kept-topic-still-mounts : mounted (lentAs staging (cardOf topic payload) text) (length (cardOf topic payload)) .code ≡ Fine
   a-kept-topic-still-mounts = kept-mounts staging text topic payload least most good kept fits
 

@@ -86,7 +86,7 @@ ingress-kind = cc
 module _ (l : Lent) (h : Host) (topic take′ : List ℕ) (traced : length (h .weave .trace) ≡ 32) (may : IngressMay l h topic take′) where
   ingress-name : goodName 0 topic ≡ true
   unfolding goodName
-  ingress-name = and-both (cardTopic topic) _ (called-kept topic (may .topic-good)) refl
+  ingress-name = and-both (cardTopic topic) _ (called-kept 1 2048 topic (may .topic-good)) refl
 
   pub ingress-staged : Stageable l h (recordBytes (headerFor h 1 0) (h .weave .trace) topic take′) (totalLen (length topic) (length take′))
   ingress-staged = stageable l h 1 0 topic take′ traced (may .room) ingress-kind ingress-name (raw-payload 1 take′ cc)
@@ -123,7 +123,7 @@ module _ (l : Lent) (h : Host) (m : List ℕ) (a : ℕ) (traced : length (h .wea
   unfolding goodName topicFine
   name =
       and-both (cardTopic (writtenTopic m a)) _
-      (called-kept (writtenTopic m a) (and-right (inside (writeArgs m a .topic .ptr) (writeArgs m a .topic .len) (length m)) _ (may .topic)))
+      (called-kept 1 2048 (writtenTopic m a) (and-right (inside (writeArgs m a .topic .ptr) (writeArgs m a .topic .len) (length m)) _ (may .topic)))
       (rw (ne-eqb (h .weave .turn) 0 (λ e. omega (arith, least)), calm))
 
   stored : goodPayload (writeArgs m a .flags) (payloadBytes m (writeArgs m a)) ≡ true

@@ -31,12 +31,13 @@ namedIn (Close m a) = []
 namedIn (Return code) = []
 namedIn (LookUp id) = []
 
--- what a topic had to be before, and still has to be on a card. 01: "A topic or filter has a length within its sizes and is UTF-8 with no byte from 0 to 31"
-pub record GoodIn01 (topic : List ℕ) : Type 0 where
-  pub least : 1 ≤ length topic
-  pub most : length topic ≤ 2048
-  pub encoded : utf8 topic ≡ true
-  pub no-control : All (λ (b : ℕ). 32 ≤ b) topic
+-- what a topic or a filter had to be before, and on a card still has to be. 01: "A topic or filter has a length within its sizes and is UTF-8 with no byte from
+-- 0 to 31"
+pub record GoodIn01 (least most : ℕ) (s : List ℕ) : Type 0 where
+  pub at-least : least ≤ length s
+  pub at-most : length s ≤ most
+  pub encoded : utf8 s ≡ true
+  pub no-control : All (λ (b : ℕ). 32 ≤ b) s
 
 -- a card of one event, raw and from no module
 abbrev pub oneHeader : Header

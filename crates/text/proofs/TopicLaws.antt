@@ -5,6 +5,7 @@ use mathlib.Core.Bool.{Bool, true, false, _&&_, true≢false}
 use mathlib.Core.List.{List, [], _∷_, List·Memᴰ, List·Memᴰ·head, List·Memᴰ·tail}
 use Prim.Native.Nat.{ℕ, _+_, _≤_, _<_}
 use native.Mathlib.Omega.{arith}
+use borrow.Author.Tests.{ne-eqb}
 use lib.Dec.{leb}
 use lib.ListN.{length, getD, drop, drop-of-length-le}
 use Rattle.le.proofs.SpliceLaws.{drop-head}
@@ -12,7 +13,7 @@ use Rattle.le.proofs.TestLaws.{and-left, and-right, and-both, and-no-right, and
 use Rattle.text.specs.declared.topic.Rule.{Rule}
 use Rattle.text.specs.declared.topic.Rule.the-variants.{Called, Kept}
 use Rattle.text.specs.Utf8.{utf8}
-use Rattle.text.specs.Topic.{mayStand, noControl, goodText, goodTopic, cardTopic}
+use Rattle.text.specs.Topic.{mayStand, noControl, goodText}
 
 module _ (rule : Rule) (s : List ℕ) (i : ℕ) (all : Bool) where
   pub control-turn : i < length s → mayStand rule (getD s i 0) ≡ true → noControl rule (drop i s) ≡ all → noControl rule (drop (i + 1) s) ≡ all
@@ -42,13 +43,27 @@ never-good rule b n least most s m =
 pub good-no-del : (least most : ℕ) (s : List ℕ) → goodText Called least most s ≡ true → List·Memᴰ 127 s → ⊥
 good-no-del least most s e m = true≢false (sym e ∙ never-good Called 127 refl least most s m)
 
--- what a call may write, a card may hold
+-- what a call may write, a card may hold; and the other way round, where byte 127 is not in it
 called-stands : (s : List ℕ) → noControl Called s ≡ true → noControl Kept s ≡ true
 unfolding noControl
 called-stands [] e = refl
 called-stands (b ∷ s) e =
     and-both (leb 32 b) _ (and-left (leb 32 b) _ (and-left (mayStand Called b) _ e)) (called-stands s (and-right (mayStand Called b) _ e))
 
-pub called-kept : (s : List ℕ) → goodTopic s ≡ true → cardTopic s ≡ true
-unfolding goodText
-called-kept s e = and-on (leb 1 (length s)) _ _ (and-on (leb (length s) 2048) _ _ (and-on (utf8 s) _ _ (called-stands s))) e
+kept-stands : (s : List ℕ) → (List·Memᴰ 127 s → ⊥) → noControl Kept s ≡ true → noControl Called s ≡ true
+unfolding noControl
+kept-stands [] n e = refl
+kept-stands (b ∷ s) n e =
+    and-both (mayStand Called b) _ (rw (and-left (leb 32 b) _ e, ne-eqb b 127 (λ q. n (List·Memᴰ·head (sym q)))))
+    (kept-stands s (λ m. n (List·Memᴰ·tail m)) (and-right (leb 32 b) _ e))
+
+module _ (least most : ℕ) (s : List ℕ) where
+  by-bytes : (a b : Rule) → (noControl a s ≡ true → noControl b s ≡ true) → goodText a least most s ≡ true → goodText b least most s ≡ true
+  unfolding goodText
+  by-bytes a b f = and-on (leb least (length s)) _ _ (and-on (leb (length s) most) _ _ (and-on (utf8 s) _ _ f))
+
+  pub called-kept : goodText Called least most s ≡ true → goodText Kept least most s ≡ true
+  called-kept = by-bytes Called Kept (called-stands s)
+
+  pub kept-called : (List·Memᴰ 127 s → ⊥) → goodText Kept least most s ≡ true → goodText Called least most s ≡ true
+  kept-called n = by-bytes Kept Called (kept-stands s n)

@@ -15,6 +15,7 @@ abbrev pub mayStand : Rule → ℕ → Bool
 mayStand Called b = leb 32 b && not (eqb b 127)
 mayStand Kept b = leb 32 b
 
+-- no byte stands there that may not
 unfoldable pub noControl : Rule → List ℕ → Bool
 noControl rule [] = true
 noControl rule (b ∷ bs) = mayStand rule b && noControl rule bs
