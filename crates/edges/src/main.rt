@@ -1,4 +1,4 @@
-// The cases at the edges of `le` and `text` that are run and compared: outside vectors, and document 01's own. Each line of the input is a case: it is
+// The cases at the edges of `le` and `text` that are run and compared: outside vectors, and those of documents 01 and 02. Each line of the input is a case: it is
 // written again, a blank for each tab, with what it gives. Bytes stand in base 16.
 mod numbers;
 mod texts;

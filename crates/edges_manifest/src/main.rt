@@ -1,5 +1,5 @@
-// Manifests at the edges of what document 01 says of them: what a text is read as, and what it grants. Each line of the input is a step; `stdout` was made
-// from document 01 by other means than this program. In a text `|` stands for a tab, `;` for byte 10, and `<1f>` for a byte that is no sign of ASCII.
+// Manifests at the edges of what documents 01 and 02 say of them: what a text is read as, and what it grants. Each line of the input is a step; `stdout` was made
+// from them by other means than this program. In a text `|` stands for a tab, `;` for byte 10, and `<1f>` for a byte that is no sign of ASCII.
 //
 // read text                 the text, and what it is read as
 // new text                  a text to be added to: nothing is said

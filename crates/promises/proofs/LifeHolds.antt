@@ -123,7 +123,7 @@ sane-run (o ∷ os) w d b a s =
 -- ---- mount
 
 -- there are no more records than bytes
-few-records : (rs : List (List ℕ)) → All Long rs → length rs ≤ size rs
+pub few-records : (rs : List (List ℕ)) → All Long rs → length rs ≤ size rs
 few-records [] a = omega arith
 few-records (r ∷ rs) a = omega (arith, a .0, few-records rs (a .1))
 

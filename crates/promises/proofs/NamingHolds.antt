@@ -1,20 +1,21 @@
 -- Byte 127: no call and no grant names it, so no module is shown an event with it; a card that holds one mounts, and look-up shows it.
 -- Assumes nothing.
-use mathlib.Core.Path.{_≡_, refl, sym, subst, _∙_}
-use mathlib.Core.Bool.{true, false}
-use mathlib.Core.List.{List, [], _∷_, List·Memᴰ, List·Memᴰ·not-nil}
+use mathlib.Core.Path.{_≡_, refl, sym, ap, subst, _∙_}
+use mathlib.Core.Bool.{Bool, true, false, not, _||_, or-true}
+use mathlib.Core.List.{List, [], _∷_, _++_, List·Memᴰ, List·Memᴰ·not-nil}
 use mathlib.Core.Logic.{_↔_}
 use Prim.Native.Nat.{ℕ, _+_, _≤_}
 use native.Mathlib.Omega.{arith}
 use borrow.Author.Tests.{leb-true, le-leb, eq-eqb}
-use lib.Dec.{leb, lit<}
-use lib.ListN.{length}
-use lib.Seq.{take-all}
-use Rattle.le.specs.Splice.{zeros}
+use lib.Dec.{leb, eqb}
+use lib.ListN.{length, length-append}
+use lib.Seq.{take-all, getD-append-seam}
 use Rattle.le.proofs.TestLaws.{and-left, and-right, and-both}
 use Rattle.text.specs.declared.topic.Rule.the-variants.{Called, Kept}
 use Rattle.text.specs.Topic.{cardTopic, goodText, noControl}
 use Rattle.text.specs.Utf8.{utf8}
+use Rattle.text.specs.Compare.{sameBytes}
+use Rattle.text.specs.Words.{panicTopic}
 use Rattle.text.specs.Span.{inside}
 use Rattle.text.specs.Sizes.{totalLen}
 use Rattle.text.proofs.TopicLaws.{good-no-del, called-kept, kept-called}
@@ -22,13 +23,14 @@ use Rattle.value.specs.declared.Span.{Span}
 use Rattle.manifest.specs.Rights.{Right}
 use Rattle.manifest.specs.Saying.{isGood, manifestOf, rightsSaid, mayRead}
 use Rattle.manifest.proofs.SayingLaws.{rights-good, reader-good}
-use Rattle.record.specs.Record.{topicOf}
-use Rattle.record.specs.Good.{goodName}
+use Rattle.record.specs.declared.Header.{Header}
+use Rattle.record.specs.Record.{topicOf, recordBytes}
+use Rattle.record.specs.Good.{goodName, goodRecord}
 use Rattle.record.proofs.GoodLaws.{length-record, record-topic, record-good}
-use Rattle.record.proofs.WrittenLaws.{raw-payload}
 use Rattle.card.specs.Pick.{All}
 use Rattle.card.proofs.PickLaws.{all-map}
-use Rattle.card.proofs.RecordsLaws.{records-one}
+use Rattle.card.specs.Records.{records, size}
+use Rattle.card.proofs.RecordsLaws.{records-append, records-one, size-append}
 use Rattle.weave.specs.declared.Code.the-variants.{Fine}
 use Rattle.weave.specs.Moves.{cursorOf}
 use Rattle.weave.specs.Args.{writeArgs, readArgs, openArgs, bytesAt, topicFine, filterFine}
@@ -39,15 +41,15 @@ use Rattle.reads.specs.Reading.{readTopic, readList}
 use Rattle.promises.specs.Box.{World, recordsOn, cardRecords, Op, Begin, Ingress, Write, Read, Open, Next, Close, Return, LookUp, Part, step, isRefused, mountedAs}
 use Rattle.promises.specs.Diary.{firstPage}
 use Rattle.promises.specs.Turn.{listLeft, Allowed}
-use Rattle.promises.specs.Naming.{NoDel, namedIn, GoodIn01, oneHeader, cardOf}
+use Rattle.promises.specs.Naming.{NoDel, Clean, namedIn, GoodIn01, MayFollow}
 use Rattle.promises.proofs.AcceptedHolds.{ingress-exactly, write-exactly, read-exactly, open-exactly}
 use Rattle.promises.proofs.DiaryHolds.{mount-agrees}
-use Rattle.promises.proofs.LifeHolds.{life-sane}
+use Rattle.promises.proofs.LifeHolds.{life-sane, few-records}
 use Rattle.promises.proofs.ListHolds.{all-allowed}
 use Rattle.promises.proofs.MountHolds.{mounts}
 use Rattle.promises.proofs.ReadBackHolds.{kept-found}
 use Rattle.promises.proofs.ReadHolds.{read-lists}
-use Rattle.promises.proofs.StagedLaws.{ingress-kind}
+use Rattle.promises.proofs.PagesHold.{records-long}
 
 -- ---- what may be named, and what a card may keep, in the documents' own words
 
@@ -107,10 +109,7 @@ grants-no-del text g m = good-no-del 1 2048 (g .topic) (rights-good text g m .to
 
 -- ---- what is shown
 
-abbrev Clean : List ℕ → Type 0
-Clean r = NoDel (topicOf r)
-
-pub lists-no-del : (w : World) (k : ℕ) → All (λ (r : List ℕ). NoDel (topicOf r)) (listLeft w k)
+pub lists-no-del : (w : World) (k : ℕ) → All Clean (listLeft w k)
 unfolding nextList
 lists-no-del w k =
     let may = mayRead (w .lent .text) (w .host .weave .turn) in
@@ -120,32 +119,47 @@ lists-no-del w k =
     (listLeft w k) (all-allowed may c (cardRecords w))
 
 pub reads-no-del : (w : World) (m : List ℕ) (at : ℕ) → isRefused (step w (Read m at) .said) ≡ false
-    → All (λ (r : List ℕ). NoDel (topicOf r)) (readList (w .lent) (w .host) m at)
+    → All Clean (readList (w .lent) (w .host) m at)
 reads-no-del w m at e =
     all-map (λ (r : List ℕ). topicOf r ≡ readTopic m at) Clean (λ r q. subst NoDel (sym q) (names-no-del w (Read m at) e))
     (readList (w .lent) (w .host) m at) (read-lists w m at .topics)
 
 -- ---- what a card holds
 
-module _ (staging text topic payload : List ℕ) (least : 65536 ≤ length staging) (most : length staging ≤ 1048576) (good : isGood (manifestOf text) ≡ true)
-    (kept : GoodIn01 1 2048 topic) (fits : totalLen (length topic) (length payload) ≤ 16777216) where
+module _ (staging text front : List ℕ) (h : Header) (trace topic payload : List ℕ) (least : 65536 ≤ length staging) (most : length staging ≤ 1048576)
+    (good : isGood (manifestOf text) ≡ true) (may : MayFollow front h trace topic payload) where
+  abbrev r : List ℕ
+  r = recordBytes h trace topic payload
+
   abbrev card′ : List ℕ
-  card′ = cardOf topic payload
+  card′ = front ++ r
 
   abbrev l : Lent
   l = lentAs staging card′ text
 
-  long : length card′ ≡ totalLen (length topic) (length payload)
-  long = length-record oneHeader (zeros 32) topic payload refl (omega arith)
+  small : totalLen (length topic) (length payload) ≤ 4294967295
+  small = omega (arith, may .fits)
 
-  name : goodName 0 topic ≡ true
+  long : length card′ ≡ length front + totalLen (length topic) (length payload)
+  long = length-append front r ∙ ap (λ (n : ℕ). length front + n) (length-record h trace topic payload (may .traced) small)
+
+  name : goodName (h .agent) topic ≡ true
   unfolding goodName
-  name = and-both (cardTopic topic) _ (kept-exactly 1 2048 topic .1 kept) refl
+  name = and-both (cardTopic topic) _ (kept-exactly 1 2048 topic .1 (may .topic-good)) (go (sameBytes topic panicTopic) (may .panic))
+    where
+      go : (b : Bool) → (b ≡ true → h .agent ≡ 0) → (eqb (h .agent) 0 || not b) ≡ true
+      go true f = rw (f refl)
+      go false f = or-true (eqb (h .agent) 0)
 
-  on-card : recordsOn card′ (length card′) ≡ card′ ∷ []
+  sound : goodRecord r (h .id .0) ≡ true
+  sound =
+      record-good h trace topic payload (may .traced) small
+      (omega (arith, may .number, may .fits, may .sound, few-records (records front 1) (records-long front 1))) (may .kind) name (may .payload-good)
+
+  on-card : recordsOn card′ (length card′) ≡ records front 1 ++ (r ∷ [])
   on-card =
       rw (take-all (length card′) card′ (omega arith))
-      (records-one card′ 1 (record-good oneHeader (zeros 32) topic payload refl (omega arith) (lit< tt) ingress-kind name (raw-payload 1 payload cc)))
+      (records-append r front 1 (may .sound) ∙ rw (← may .number, records-one r (h .id .0) sound))
 
   pub kept-mounts : mounted l (length card′) .code ≡ Fine
   kept-mounts =
@@ -153,18 +167,20 @@ module _ (staging text topic payload : List ℕ) (least : 65536 ≤ length stagi
       ∙ rw (
         le-leb 65536 (length staging) least,
         le-leb (length staging) 1048576 most,
-        le-leb (length card′) 16777216 (omega (arith, long)),
+        le-leb (length card′) 16777216 (omega (arith, long, may .fits)),
         le-leb (length card′) (length card′) (omega arith),
         good,
         on-card,
-        eq-eqb (length card′ + 0) (length card′) (omega arith),
+        eq-eqb (size (records front 1 ++ (r ∷ []))) (length card′) (omega (arith, size-append (records front 1) (r ∷ []), may .sound, length-append front r)),
       )
 
-  pub kept-shown : step (mountedAs l (length card′)) (LookUp 1) .said ≡ Part card′
+  pub kept-shown : step (mountedAs l (length card′)) (LookUp (h .id .0)) .said ≡ Part r
   kept-shown =
-      rw on-card at
-      (kept-found (mountedAs l (length card′)) (firstPage l (length card′)) (mount-agrees l (length card′) kept-mounts) (life-sane l (length card′) [] tt kept-mounts) 0
-      (rw on-card (lit< tt)))
+      let i = length (records front 1) in
+      let here = kept-found (mountedAs l (length card′)) (firstPage l (length card′)) (mount-agrees l (length card′) kept-mounts) (life-sane l (length card′) [] tt kept-mounts) i
+      (rw on-card (omega (arith, length-append (records front 1) (r ∷ [])))) in
+      let number : h .id .0 ≡ i + 1 = omega (arith, may .number) in
+      ap (λ (k : ℕ). step (mountedAs l (length card′)) (LookUp k) .said) number ∙ here ∙ ap Part (rw on-card (getD-append-seam (records front 1) r [] []))
 
-  pub kept-named : topicOf card′ ≡ topic
-  kept-named = record-topic oneHeader (zeros 32) topic payload refl (omega arith)
+  pub kept-named : topicOf r ≡ topic
+  kept-named = record-topic h trace topic payload (may .traced) small

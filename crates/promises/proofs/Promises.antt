@@ -3,7 +3,7 @@
 -- Assumes nothing.
 use mathlib.Core.Path.{_≡_, ap}
 use mathlib.Core.Bool.{Bool, true, false}
-use mathlib.Core.List.{List, [], _∷_, map, List·Memᴰ}
+use mathlib.Core.List.{List, [], _∷_, _++_, map, List·Memᴰ}
 use mathlib.Core.Logic.{_↔_}
 use Prim.Native.Nat.{ℕ, _+_, _≤_, _<_}
 use lib.IntN.{ℤ, pos, negsuc}
@@ -11,10 +11,10 @@ use lib.ListN.{length, getD}
 use Rattle.le.specs.Splice.{splice, zeros}
 use Rattle.le.specs.Le.{Bytes}
 use Rattle.text.specs.Topic.{goodTopic, cardTopic, goodFilter}
-use Rattle.text.specs.Sizes.{totalLen}
 use Rattle.manifest.specs.Rights.{Right}
 use Rattle.manifest.specs.Saying.{isGood, manifestOf, rightsSaid, mayRead}
-use Rattle.record.specs.Record.{topicOf}
+use Rattle.record.specs.declared.Header.{Header}
+use Rattle.record.specs.Record.{topicOf, recordBytes}
 use Rattle.record.specs.Written.{Written}
 use Rattle.card.specs.Pick.{All, Sorted, only}
 use Rattle.card.specs.Records.{records, size}
@@ -45,7 +45,7 @@ use Rattle.promises.specs.Diary.{Diary, answerOf, ingressRecord, written
 use Rattle.promises.specs.Standing.{atMount, standing, Stands}
 use Rattle.promises.specs.Turn.{InTurn, handedOver, listLeft, FirstPart, Nexts, Allowed, ListedOf, AskedBy}
 use Rattle.promises.specs.ReadBack.{HasPage, ReadOf}
-use Rattle.promises.specs.Naming.{NoDel, namedIn, GoodIn01, cardOf}
+use Rattle.promises.specs.Naming.{NoDel, Clean, namedIn, GoodIn01, MayFollow}
 use Rattle.promises.specs.TwoWeaves.{saidOver, twoModules, theCalls, theAnswers}
 use Rattle.promises.proofs.AcceptedLaws.{lawful, fine-lawful, settle-ok}
 use Rattle.promises.proofs.OutcomeHolds.{committed-exactly}
@@ -353,7 +353,7 @@ a-filter-is-good-exactly-when = called-exactly 0 64
 pub a-card-keeps-a-topic-exactly-when : (s : List ℕ) → (cardTopic s ≡ true) ↔ GoodIn01 1 2048 s
 a-card-keeps-a-topic-exactly-when = kept-exactly 1 2048
 
--- so no call that names it is accepted, and "no grant can name it"
+-- no call that names it is accepted, and "no grant can name it"
 pub no-accepted-call-names-del : (w : World) (o : Op) → isRefused (step w o .said) ≡ false → NoDel (namedIn o)
 no-accepted-call-names-del = names-no-del
 
@@ -361,22 +361,29 @@ pub no-grant-names-del : (text : List ℕ) (g : Right) → List·Memᴰ g (right
 no-grant-names-del = grants-no-del
 
 -- so no event with it is in a list or in a read, whatever the card and the staged bytes hold
-pub no-list-has-del : (w : World) (k : ℕ) → All (λ (r : List ℕ). NoDel (topicOf r)) (listLeft w k)
+pub no-list-has-del : (w : World) (k : ℕ) → All Clean (listLeft w k)
 no-list-has-del = lists-no-del
 
 pub no-read-has-del : (w : World) (m : List ℕ) (at : ℕ) → isRefused (step w (Read m at) .said) ≡ false
-    → All (λ (r : List ℕ). NoDel (topicOf r)) (readList (w .lent) (w .host) m at)
+    → All Clean (readList (w .lent) (w .host) m at)
 no-read-has-del = reads-no-del
 
--- "Cards that already hold such a topic still mount": mount accepts an event on any topic that is good by 01, with byte 127 or not, and look-up shows it
-module _ (staging text topic payload : List ℕ) (least : 65536 ≤ length staging) (most : length staging ≤ 1048576) (good : isGood (manifestOf text) ≡ true)
-    (kept : GoodIn01 1 2048 topic) (fits : totalLen (length topic) (length payload) ≤ 16777216) where
-  pub a-kept-topic-still-mounts : mounted (lentAs staging (cardOf topic payload) text) (length (cardOf topic payload)) .code ≡ Fine
-  a-kept-topic-still-mounts = kept-mounts staging text topic payload least most good kept fits
+-- "Cards that already hold such a topic still mount": behind any sound card, an event of any kind on any topic that is good by 01, with byte 127 or not: mount accepts
+-- the card, and look-up shows the event
+module _ (staging text front : List ℕ) (h : Header) (trace topic payload : List ℕ) (least : 65536 ≤ length staging) (most : length staging ≤ 1048576)
+    (good : isGood (manifestOf text) ≡ true) (may : MayFollow front h trace topic payload) where
+  abbrev old : List ℕ
+  old = recordBytes h trace topic payload
 
-  pub look-up-shows-a-kept-topic : (step (mountedAs (lentAs staging (cardOf topic payload) text) (length (cardOf topic payload))) (LookUp 1) .said ≡ Part (cardOf topic payload))
-      × (topicOf (cardOf topic payload) ≡ topic)
-  look-up-shows-a-kept-topic = (kept-shown staging text topic payload least most good kept fits, kept-named staging text topic payload least most good kept fits)
+  abbrev l : Lent
+  l = lentAs staging (front ++ old) text
+
+  pub a-kept-topic-still-mounts : mounted l (length (front ++ old)) .code ≡ Fine
+  a-kept-topic-still-mounts = kept-mounts staging text front h trace topic payload least most good may
+
+  pub look-up-shows-a-kept-topic : (step (mountedAs l (length (front ++ old))) (LookUp (h .id .0)) .said ≡ Part old) × (topicOf old ≡ topic)
+  look-up-shows-a-kept-topic =
+      (kept-shown staging text front h trace topic payload least most good may, kept-named staging text front h trace topic payload least most good may)
 
 -- ==== Nothing of this holds because nothing happens
 

@@ -79,7 +79,7 @@ module _ (l : Lent) (h : Host) (flags agent : ℕ) (topic take′ : List ℕ) (t
 
 -- ---- ingress: raw, agent 0, any good topic
 
-pub ingress-kind : goodKind 1 0 ≡ true
+ingress-kind : goodKind 1 0 ≡ true
 unfolding goodKind goodFlags
 ingress-kind = cc
 

@@ -54,8 +54,8 @@ abbrev pub cursorAt : World → List ℕ → ℕ → Cursor
 cursorAt w m a = cursorOf (w .host .weave) (nextArgs m a .handle)
 
 -- what a case says: the total_len of a topic and a payload of these lengths; the data_len of the value at p of memory m; good flags; a span inside; a
--- float's bits as they are stored (`float-canonical` of value's proofs/ScalarLaws.antt ties `canonical` to the code's float); a good topic, a good filter, a topic that a card may keep; UTF-8; whatever the box,
--- what a next answers whose cursor has this window and limit, and one into so many bytes where two records of 152 are left; and what becomes of a weave that is
+-- float's bits as they are stored (`float-canonical` of value's proofs/ScalarLaws.antt ties `canonical` to the code's float); a good topic, a good filter, a topic
+-- that a card may keep; UTF-8; whatever the box, what a next answers whose cursor has this window and limit, and one into so many bytes where two records of 152 are left; and what becomes of a weave that is
 -- not spoiled by a return with this code
 abbrev pub Holds : Case → Type 0
 Holds (total t d n) = totalLen t d ≡ n
@@ -111,5 +111,5 @@ edges =
     -- 02, A2: byte 127 refused, 126 accepted, and C2 80, which is not ASCII; on a card 127 too
     ∷ topic (126 ∷ []) true ∷ topic (127 ∷ []) false ∷ topic (0xC2 ∷ 0x80 ∷ []) true
     ∷ filter (126 ∷ []) true ∷ filter (127 ∷ []) false ∷ filter (0xC2 ∷ 0x80 ∷ []) true
-    ∷ kept (127 ∷ []) true
+    ∷ kept (31 ∷ []) false ∷ kept (126 ∷ []) true ∷ kept (127 ∷ []) true ∷ kept (0xC2 ∷ 0x80 ∷ []) true
     ∷ []

@@ -1,4 +1,4 @@
--- The laws of `noControl` that a loop over the bytes asks for, whose `all` is what the whole input gives; what a good text has not; and the two rules for topics.
+-- The laws of `noControl` that a loop over the bytes asks for, whose `all` is what the whole input gives; which bytes a good text never has; and the two rules for topics.
 -- Assumes nothing.
 use mathlib.Core.Path.{_≡_, refl, sym, _∙_}
 use mathlib.Core.Bool.{Bool, true, false, _&&_, true≢false}
@@ -58,12 +58,12 @@ kept-stands (b ∷ s) n e =
     (kept-stands s (λ m. n (List·Memᴰ·tail m)) (and-right (leb 32 b) _ e))
 
 module _ (least most : ℕ) (s : List ℕ) where
-  by-bytes : (a b : Rule) → (noControl a s ≡ true → noControl b s ≡ true) → goodText a least most s ≡ true → goodText b least most s ≡ true
+  good-on : (a b : Rule) → (noControl a s ≡ true → noControl b s ≡ true) → goodText a least most s ≡ true → goodText b least most s ≡ true
   unfolding goodText
-  by-bytes a b f = and-on (leb least (length s)) _ _ (and-on (leb (length s) most) _ _ (and-on (utf8 s) _ _ f))
+  good-on a b f = and-on (leb least (length s)) _ _ (and-on (leb (length s) most) _ _ (and-on (utf8 s) _ _ f))
 
   pub called-kept : goodText Called least most s ≡ true → goodText Kept least most s ≡ true
-  called-kept = by-bytes Called Kept (called-stands s)
+  called-kept = good-on Called Kept (called-stands s)
 
   pub kept-called : (List·Memᴰ 127 s → ⊥) → goodText Kept least most s ≡ true → goodText Called least most s ≡ true
-  kept-called n = by-bytes Kept Called (kept-stands s n)
+  kept-called n = good-on Kept Called (kept-stands s n)

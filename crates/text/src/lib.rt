@@ -1,4 +1,4 @@
-// Texts, spans, sizes and flags: what document 01 says of bytes before it says what they are for.
+// Texts, spans, sizes and flags: what documents 01 and 02 say of bytes before they say what they are for.
 pub mod compare;
 pub mod decimal;
 pub mod flags;

@@ -7,7 +7,7 @@ ghost use Rattle.text.specs.declared.topic.Rule.{Rule};
 ghost use Rattle.text.specs.Topic.{mayStand, noControl, goodText, goodTopic, cardTopic, goodFilter};
 use crate::limits::Limits;
 
-// Which bytes may stand: in a topic or filter of a call or a grant; in a topic that a card keeps. Cards outlive the rule for calls.
+// Which bytes may stand: in a topic or filter of a call or a grant; in a record's topic, on the card or staged. Cards outlive the rule for calls.
 pub enum Rule {
     Called,
     Kept,
@@ -47,7 +47,7 @@ fn plain_front(s: &[u8]) -> usize
         if eight & 0x8080_8080_8080_8080 != 0 {
             return i;
         }
-        // Add 96 to a byte below 32, and its highest bit is still 0. Add 1 to any but 127, and it is too.
+        // Add 96 to a byte below 32, and its highest bit is still 0. Add 1 to a byte below 127, and it is too. (Of seven bits, so that no sum can run over.)
         let low = eight & 0x7F7F_7F7F_7F7F_7F7F;
         if (low + 0x6060_6060_6060_6060) & 0x8080_8080_8080_8080 != 0x8080_8080_8080_8080 {
             return i;

@@ -73,6 +73,7 @@ spanFine m s = inside (s .ptr) (s .len) (length m)
 unfoldable pub topicFine : List ℕ → Span → Bool
 topicFine m s = spanFine m s && goodTopic (bytesAt m s)
 
+-- for tl_open the filter is the topic
 unfoldable pub filterFine : List ℕ → Span → Bool
 filterFine m s = spanFine m s && goodFilter (bytesAt m s)
 
