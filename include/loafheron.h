@@ -2,8 +2,8 @@
  *
  * Link target/staticlib/libloafheron.a, which `rt staticlib loafheron` makes, for x86-64 Linux and no other machine. Of every
  * function's source it is proved that it answers just what its definition says, for every state and every byte that it is lent.
- * That the definitions say what the requirements (document 01) say is read, and what the compiler makes of the source is tested:
- * docs/TRUST.md.
+ * That the definitions say what the requirements (document 01, as 02 changes it) say is read, and what the compiler makes of the
+ * source is tested: docs/TRUST.md.
  *
  * A STATE goes in by value and comes out by value, beside the answer. Begin with loafheron_mount, keep the state that
  * each call hands back, and give it to the next call. The host keeps nothing itself and calls nothing.
@@ -22,7 +22,8 @@
  * wrong one is answered with -5.
  *
  * A TOPIC has 1 to 2,048 bytes, a filter 0 to 64, in UTF-8 with no control byte (0 to 31, and 127): else -5, in a call, at
- * ingress and in the manifest.
+ * ingress and in the manifest. A record from before may have byte 127 in its topic: the card mounts, look-up shows it, and no
+ * list and no read has it.
  *
  * A REFUSAL leaves every lent byte and the state as before, with one exception: the first -6 marks the weave spoiled.
  *

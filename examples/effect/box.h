@@ -25,8 +25,8 @@ void box_return(box *b, int64_t code);
 /* The weave's arguments, where the module finds them: user_data tells the effect what to do. */
 void box_tell(box *b, wasm_rt_memory_t *memory, uint64_t user_data);
 
-/* Every record of the card: its number, who wrote it, its topic, its payload. They are printed as they are: the card is
- * this program's own, and no topic on it has byte 127. */
+/* Every record of the card: its number, who wrote it, its topic, its payload. They are printed as they are.
+ * The effects are this program's own and write plain text. */
 void box_show(const box *b);
 
 #endif

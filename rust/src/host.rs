@@ -18,7 +18,7 @@ pub struct Refused {
 /// and 3 build on.
 ///
 /// A topic has 1 to 2,048 bytes, a filter 0 to 64, in UTF-8 with no control byte (0 to 31, and 127): else -5, in a call, at ingress and in
-/// the manifest.
+/// the manifest. A record from before may have byte 127 in its topic: the card mounts, look-up shows it, and no list and no read has it.
 pub struct Host {
     archive: Here,
     state: State,

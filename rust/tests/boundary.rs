@@ -1,4 +1,4 @@
-//! The archive through its safe owner: document 01's own session, its edges, and arguments that are wrong.
+//! The archive through its safe owner: document 01's own session, the edges of documents 01 and 02, and arguments that are wrong.
 use loafheron::host::{self, Buffers, Fate, Host};
 
 const MANIFEST: &[u8] = b"modules\t1\ngrant\t1\tout\tloop/take\ngrant\t1\tin\tloop/take\n";

@@ -35,8 +35,9 @@ fn every_answer_came_up(run: &differ::Run) {
         ("tl_open", &["-5 for byte 127"]),
         // met in a record, which it leaves sound
         ("mount", &["0, 127 on the card"]),
-        ("tl_next", &["127 on the card"]),
         ("look-up", &["127 on the card", "127 in staging"]),
+        // in a list but for the grant
+        ("tl_next", &["127 in the way"]),
     ];
     for (call, answers) in wanted {
         for answer in answers {

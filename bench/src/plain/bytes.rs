@@ -23,18 +23,18 @@ pub fn zero(s: &[u8]) -> bool {
 }
 
 /// Every byte is looked at, with no stop at the first that is found: so the compiler takes many at a time.
-fn has_control(s: &[u8]) -> bool {
-    s.iter().fold(false, |found, b| found | b.is_ascii_control())
+fn has(s: &[u8], bad: impl Fn(&u8) -> bool) -> bool {
+    s.iter().fold(false, |found, b| found | bad(b))
 }
 
 /// A topic of a call or a grant.
 pub fn good_topic(s: &[u8]) -> bool {
-    (1..=2_048).contains(&s.len()) && !has_control(s) && std::str::from_utf8(s).is_ok()
+    (1..=2_048).contains(&s.len()) && !has(s, u8::is_ascii_control) && std::str::from_utf8(s).is_ok()
 }
 
 /// A topic of a record: one of an old card may have byte 127.
 pub fn card_topic(s: &[u8]) -> bool {
-    (1..=2_048).contains(&s.len()) && s.iter().all(|b| *b >= 32) && std::str::from_utf8(s).is_ok()
+    (1..=2_048).contains(&s.len()) && !has(s, |b| *b < 32) && std::str::from_utf8(s).is_ok()
 }
 
 pub fn span(memory: &[u8], ptr: u64, len: u64) -> Option<&[u8]> {

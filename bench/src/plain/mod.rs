@@ -1,5 +1,5 @@
-//! The other side: the same operations in plain Rust, written as one would write them, with the same checks of document 01
-//! in the same order as far as these calls meet them. Nothing is left out that the proved host does: the manifest is read at
+//! The other side: the same operations in plain Rust, written as one would write them, with the same checks of documents 01
+//! and 02 in the same order as far as these calls meet them. Nothing is left out that the proved host does: the manifest is read at
 //! every call, next and the last return walk all the records they speak of.
 mod bytes;
 mod calls;

@@ -116,11 +116,12 @@ impl Twin {
                 println!("       from a state with {}", fields(&plain, &before));
             }
         }
+        let cursor = del::cursor(&call, &self.state, &self.lent);
         let models = models(&mut self.state, &mut self.lent, &call);
         let (ours, state) = self.ours(&call, before);
         self.calls += 1;
         *self.tally.entry((name(&call), short(&models))).or_insert(0) += 1;
-        if let Some(met) = del::met(&call, &models, &self.state, &self.lent) {
+        if let Some(met) = del::met(&call, &models, cursor, &self.state, &self.lent) {
             *self.tally.entry((name(&call), met.into())).or_insert(0) += 1;
         }
         if self.aloud {

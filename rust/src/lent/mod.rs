@@ -203,26 +203,40 @@ mod tests {
         assert_eq!((a.code, a.state.late), (-2, 1));
     }
 
+    /// A read of what is staged with a topic of nine bytes: its record lies at 8, the topic at 64, and from 80 on there is room for both takes.
+    fn read(archive: &Here, state: State, memory: &mut [u8; 512], b: &Buffers, topic: &[u8; 9]) -> raw::Answer {
+        memory[64..73].copy_from_slice(topic);
+        for (at, word) in [(8, 64), (16, 9), (24, 0), (32, 80), (40, 304_u64)] {
+            memory[at..at + 8].copy_from_slice(&word.to_le_bytes());
+        }
+        archive.read(state, memory, b, 8)
+    }
+
     /// A staged record whose topic gets byte 127 by hand stays sound: no read has it, look-up shows it, the last return commits it.
     #[test]
     fn a_staged_record_may_hold_byte_127() {
         let archive = Here::default();
         let mut b = buffers();
-        let begun = archive.begin(archive.mount(&b, 0).state, &mut b, &weave_args()).state;
-        let staged = archive.ingress(begun, &mut b, b"loop/take", b"verse").state;
+        // units for a read of both takes, 1 + 304 / 8
+        let mut args = weave_args();
+        args[24] = 39;
+        let begun = archive.begin(archive.mount(&b, 0).state, &mut b, &args).state;
+        let first = archive.ingress(begun, &mut b, b"loop/take", b"verse").state;
+        let staged = archive.ingress(first, &mut b, b"loop/take", b"chorus").state;
         b.staging[128 + 8] = 127;
-        let mut memory = [0; 256];
-        for (at, word) in [(8, 64), (16, 9), (32, 80), (40, 160)] {
-            memory[at] = word;
-        }
-        memory[64..73].copy_from_slice(b"loop/take");
-        let a = archive.read(staged, &mut memory, &b, 8);
-        assert_eq!((a.code, a.value), (0, 0));
-        assert_eq!(place(archive.look_up(staged, &b, 1)), Place::Staging { at: 0, len: 152 });
-        let r = archive.module_return(staged, &mut b, 0);
-        assert_eq!(fate(r.outcome), Fate::Committed { events: 1, bytes: 152 });
+        let mut memory = [0; 512];
+        let a = read(&archive, staged, &mut memory, &b, b"loop/take");
+        assert_eq!((a.code, a.value), (0, 152));
+        assert_eq!((memory[80 + 8], &memory[80 + 144..80 + 150]), (2, &b"chorus"[..]));
+        let refused = read(&archive, a.state, &mut memory, &b, b"loop/tak\x7f");
+        assert_eq!((refused.code, refused.state), (-5, a.state));
+        assert_eq!(place(archive.look_up(a.state, &b, 1)), Place::Staging { at: 0, len: 152 });
+        assert_eq!(place(archive.look_up(a.state, &b, 2)), Place::Staging { at: 152, len: 152 });
+        let r = archive.module_return(a.state, &mut b, 0);
+        assert_eq!(fate(r.outcome), Fate::Committed { events: 2, bytes: 304 });
         assert_eq!(&b.card[128..137], b"loop/tak\x7f");
-        assert_eq!(archive.mount(&b, 152).code, 0);
+        assert_eq!(&b.card[152 + 128..152 + 137], b"loop/take");
+        assert_eq!(archive.mount(&b, 304).code, 0);
     }
 
     #[test]
