@@ -20,7 +20,7 @@ impl Record {
             let n = d.index(self.words.len() + 1);
             match self.words.get_mut(n) {
                 Some(word) => *word = if d.one_in(3) { d.edge(*word) } else { d.edge(memory) },
-                None => self.at = if d.one_in(3) { self.at + 1 + d.below(7) } else { d.edge(memory) },
+                None => self.at = if d.one_in(3) { self.at.wrapping_add(1 + d.below(7)) } else { d.edge(memory) },
             }
         }
     }
