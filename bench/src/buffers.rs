@@ -15,8 +15,7 @@ pub fn bytes(n: usize, from: u64, to: u64) -> Vec<u8> {
 }
 
 /// Characters of 1, 2, 3 and 4 bytes, as likely as each other and in no order; ASCII where no more fit.
-pub fn mixed(n: usize) -> Vec<u8> {
-    let mut d = Dice(2);
+pub fn mixed(d: &mut Dice, n: usize) -> Vec<u8> {
     let mut text = String::new();
     while text.len() + 4 <= n {
         let (from, to) = [(0x20, 0x7F), (0x80, 0x800), (0x800, 0xD800), (0x10000, 0x110000)][d.below(4) as usize];

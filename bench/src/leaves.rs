@@ -5,6 +5,7 @@ use std::hint::black_box;
 
 const MIB: usize = 1 << 20;
 const PAIRS: usize = 100_000;
+const NINES: usize = 100_000;
 
 // ---- ours: a `&[u8]` passes as a pointer and then a length, and neither function requires anything
 mod raw {
@@ -39,6 +40,15 @@ fn rust_fields(s: &[u8]) -> u64 {
     sum
 }
 
+// ---- texts of nine bytes, one behind the other: how many are good
+fn our_nines(s: &[u8]) -> u64 {
+    s.chunks_exact(9).map(our_utf8).sum()
+}
+
+fn rust_nines(s: &[u8]) -> u64 {
+    s.chunks_exact(9).map(rust_utf8).sum()
+}
+
 // ---- both sides give the same answer: whole, cut short, and with a byte changed
 fn agree(s: &[u8]) {
     assert_eq!(our_utf8(s), rust_utf8(s), "utf8 of {} bytes", s.len());
@@ -65,11 +75,16 @@ fn compare(name: &str, s: &[u8], ours: fn(&[u8]) -> u64, rusts: fn(&[u8]) -> u64
 
 pub fn rows() {
     let ascii = bytes(MIB, 0x20, 0x7F);
-    let text = mixed(MIB);
+    let text = mixed(&mut Dice(2), MIB);
+    let d = &mut Dice(4);
+    let nines: Vec<u8> = (0..NINES).flat_map(|_| mixed(d, 9)).collect();
     let fields = bytes(12 * PAIRS, 0, 256);
     assert!(our_utf8(&ascii) == 1 && our_utf8(&text) == 1 && our_utf8(&fields) == 0);
+    agree_on_damage(&ascii);
     agree_on_damage(&text);
     compare("UTF-8 check, 1 MiB of ASCII", &ascii, our_utf8, rust_utf8);
     compare("UTF-8 check, 1 MiB of mixed text", &text, our_utf8, rust_utf8);
+    compare("UTF-8 check, 100,000 texts of 9 bytes of ASCII", &ascii[..9 * NINES], our_nines, rust_nines);
+    compare("UTF-8 check, 100,000 texts of 9 bytes, mixed", &nines, our_nines, rust_nines);
     compare("100,000 pairs of u32 and u64 read", &fields, our_fields, rust_fields);
 }

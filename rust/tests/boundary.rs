@@ -28,6 +28,15 @@ fn write(host: &mut Host, memory: &mut [u8], topic: &[u8], payload: &[u8]) -> ho
     host.write(memory, 8)
 }
 
+/// A write of a string: its value lies at 128, its bytes at 160.
+fn sing(host: &mut Host, memory: &mut [u8], words: &[u8]) -> host::Answer {
+    memory[64..73].copy_from_slice(b"loop/take");
+    memory[160..160 + words.len()].copy_from_slice(words);
+    put(memory, 128, &[5, 160, words.len() as u64, 0]);
+    put(memory, 8, &[64, 9, 128, 32, 2]);
+    host.write(memory, 8)
+}
+
 /// A read of all that is staged with this topic, as far as 1,000 bytes go.
 fn read(host: &mut Host, memory: &mut [u8], topic: &[u8]) -> host::Answer {
     memory[64..64 + topic.len()].copy_from_slice(topic);
@@ -179,4 +188,25 @@ fn a_card_with_byte_127_mounts_and_look_up_alone_shows_it() {
     }
     assert_eq!(open(&mut host, &mut memory, b"loop\x7f"), Err(-5));
     assert_eq!(host.module_return(0), Fate::Committed { events: 0, bytes: 0 });
+}
+
+/// 02, A3: what is looked at eight bytes at a time is UTF-8 just where Rust says so. Bytes that are none or a part of a character, and whole characters, at
+/// every place of texts of 0 to 25 letters, which begin anywhere between two eights.
+#[test]
+fn a_string_is_utf8_or_it_is_refused_at_every_place() {
+    let odd = [&b""[..], b"\x80", b"\xFF", b"\xC3", b"\xE2\x99", b"\xF0\x9D\x84", "é".as_bytes(), "♪".as_bytes(), "𝄞".as_bytes()];
+    let mut host = Host::mount(buffers(), 0).ok().unwrap();
+    let mut memory = vec![0; 65_536];
+    for (front, len) in ["", "é", "♪"].iter().flat_map(|front| (0..=25).map(move |len| (front.as_bytes(), len))) {
+        let letters = vec![b'a'; len];
+        for at in 0..=len {
+            assert_eq!(host.begin(&weave(1_000, 0)), Ok(0));
+            for odd in odd {
+                let words = [front, &letters[..at], odd, &letters[at..]].concat();
+                let answer = std::str::from_utf8(&words).map(|_| 0).map_err(|_| -7);
+                assert_eq!(sing(&mut host, &mut memory, &words), answer, "{words:x?}");
+            }
+            assert_eq!(host.module_return(2), Fate::Discarded(-5));
+        }
+    }
 }

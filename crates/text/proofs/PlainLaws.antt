@@ -1,4 +1,5 @@
--- Plain bytes, from 32 to 126, eight at once: they change neither whether a text is UTF-8 nor whether it has a byte that may not stand there, by either rule.
+-- Eight bytes at once: those below 128 do not change whether a text is UTF-8, and plain ones, from 32 to 126, not whether it has a byte that may not stand there, by
+-- either rule.
 -- Assumes nothing.
 use mathlib.Core.Path.{_≡_, refl, sym, ap, _∙_}
 use mathlib.Core.Bool.{Bool, true, false, _&&_, true≢false}
@@ -6,7 +7,7 @@ use mathlib.Core.List.{List, [], _∷_}
 use Prim.Native.Nat.{ℕ, zero, suc, _+_, _*_, _/_, _%_, _^_, _≤_, _<_}
 use native.Mathlib.Nat.{add-zero}
 use native.Mathlib.Omega.{arith}
-use borrow.Author.Tests.{eq-eqb, eqb-true, ne-eqb, le-leb, lt-ltb}
+use borrow.Author.Tests.{eq-eqb, eqb-true, ne-eqb, le-leb}
 use lib.Bits.{bitAnd, and-mask, and-high, and-le-r}
 use lib.Pow.{shr-mod}
 use lib.Dec.{eqb, lit<}
@@ -15,10 +16,11 @@ use Rattle.le.specs.Le.{Bytes, leAt}
 use Rattle.le.proofs.SpliceLaws.{drop-head}
 use Rattle.le.proofs.OnceLaws.{ByBytes, passed-at-once, no-bytes, same-by-bytes, clear, clear-by-bytes, and-bytes, both-by-bytes}
 use Rattle.le.proofs.TestLaws.{and-left, and-both}
-use Rattle.text.specs.Utf8.{Range, after, utf8, utf8From}
+use Rattle.text.specs.Utf8.{Range, utf8, utf8From}
 use Rattle.text.specs.declared.topic.Rule.{Rule}
 use Rattle.text.specs.declared.topic.Rule.the-variants.{Called, Kept}
 use Rattle.text.specs.Topic.{mayStand, noControl}
+use Rattle.text.proofs.Utf8Laws.{after-low}
 
 -- the number of w bytes that are all c
 abbrev pub alike : ℕ → ℕ → ℕ
@@ -88,10 +90,6 @@ plain-stands rule b e = go rule
     go Called = rw (le-leb 32 b least, ne-eqb b 127 (λ q. true≢false (sym (rw q at e))))
 
 -- ---- for the loop: `all` is what the whole text gives
-
-after-low : (b : ℕ) → b < 128 → after b ≡ []
-unfolding after
-after-low b h = rw (lt-ltb b 128 h)
 
 utf8-low : (b : ℕ) (bs : List ℕ) → b < 128 → utf8 (b ∷ bs) ≡ utf8 bs
 unfolding utf8 utf8From

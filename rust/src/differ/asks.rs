@@ -99,9 +99,9 @@ fn value(d: &mut Dice, twin: &mut Twin, most: usize) -> u64 {
         ]),
         5 | 9 => {
             let n = d.index(most + 1);
-            let mut bytes = if kind == 5 { "verse é 𝄞 ".repeat(n / 8).into_bytes() } else { d.bytes(n) };
+            let mut bytes = if kind == 5 { stock::lyrics(n / 8 * 13, n % 25) } else { d.bytes(n) };
             if d.one_in(8) {
-                bytes.push(d.byte());
+                bytes.insert(n % (bytes.len() + 1), d.byte());
             }
             let at = put_somewhere(d, twin, &bytes);
             let len = if d.one_in(10) { d.edge(memory(twin)) } else { bytes.len() as u64 };

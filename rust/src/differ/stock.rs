@@ -143,6 +143,20 @@ pub fn odd_manifest(d: &mut Dice, good: &[u8]) -> Vec<u8> {
     text
 }
 
+/// So many bytes of UTF-8: letters in runs of `run`, behind each a character of 2, 3 or 4 bytes in turn, and letters where no more fit.
+pub fn lyrics(len: usize, run: usize) -> Vec<u8> {
+    let mut text = String::new();
+    for note in ["é", "♪", "𝄞"].iter().cycle() {
+        if len < text.len() + run + note.len() {
+            break;
+        }
+        text.extend(('a'..='z').cycle().take(run));
+        text.push_str(note);
+    }
+    text.extend(('a'..='z').cycle().take(len - text.len()));
+    text.into_bytes()
+}
+
 /// A value that a sound record may hold.
 pub fn value(d: &mut Dice) -> Value {
     let n = d.index(24);
@@ -159,7 +173,7 @@ pub fn value(d: &mut Dice) -> Value {
             1,
             0x8000_0000_0000_0000,
         ])),
-        5 => Kind::Text("take é\n𝄞".repeat(n).into_bytes()),
+        5 => Kind::Text(lyrics(12 * n, n)),
         _ => Kind::Bytes(d.bytes(n)),
     };
     Value { flags: d.word() as u32, kind }
