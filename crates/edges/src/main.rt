@@ -11,10 +11,10 @@ use text::lines::line;
 fn case(l: &[u8]) {
     saying::echo(l);
     let k = which(
-        b"utf8\ttopic\ttopic on a card\tfilter\ttopic of\ttopic on a card of\tfilter of\tfields of\tfield\tline at\tclosed",
+        b"utf8\ttopic\ttopic on a card\tfilter\ttopic of\ttopic on a card of\tfilter of\tfields of\tfield\tline at\tclosed\tutf8 among\tutf8 behind 0 to",
         field(l, 0),
     );
-    if k < 11 {
+    if k < 13 {
         texts::case(k, l);
         return;
     }

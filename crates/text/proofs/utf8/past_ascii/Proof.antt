@@ -3,6 +3,7 @@ use mathlib.Core.Path.{_≡_, refl}
 use Prim.Native.Nat.{_≤_, _-_, _+_}
 use native.Mathlib.Omega.{arith}
 use denote.Ref.{now}
+use lib.Bits.{bitAnd}
 use lib.ListN.{length, drop}
 use Rattle.text.specs.Utf8.{utf8}
 use Rattle.text.proofs.PlainLaws.{utf8-eight}
@@ -37,8 +38,8 @@ loop-again : tie.Need-loop-again Inv-loop μ-loop
 loop-again c =
     let s = now (c .before .before .before .before .before .args .s) in
     let l = c .before .before .before .loop in
-    let e = rw (c .before .read-u64 .ensures) at (c .if1 .left) in
-    (omega arith, omega arith, utf8-eight s (l .i) _ (c .before .before .before .before .shared-slice-known .given) (omega arith) e (l .inv .2))
+    let e : bitAnd (c .before .read-u64 .result) 0x8080808080808080 ≡ 0 = omega arith in
+    (omega arith, omega arith, utf8-eight s (l .i) _ (c .before .before .before .before .shared-slice-known .given) (omega arith) (rw (c .before .read-u64 .ensures) at e) (l .inv .2))
 
 returns-2 : tie.Need-returns-2 Inv-loop μ-loop
 returns-2 c = (c .before .loop .inv .0, c .before .loop .inv .2)
