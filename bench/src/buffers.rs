@@ -14,11 +14,12 @@ pub fn bytes(n: usize, from: u64, to: u64) -> Vec<u8> {
     (0..n).map(|_| (from + d.below(to - from)) as u8).collect()
 }
 
-/// Characters of 1, 2, 3 and 4 bytes, as likely as each other and in no order; ASCII where no more fit.
-pub fn mixed(d: &mut Dice, n: usize) -> Vec<u8> {
+/// Characters of as many bytes as `sizes` has, each as likely as the next and in no order; ASCII where no more fit.
+pub fn text(d: &mut Dice, n: usize, sizes: &[usize]) -> Vec<u8> {
     let mut text = String::new();
     while text.len() + 4 <= n {
-        let (from, to) = [(0x20, 0x7F), (0x80, 0x800), (0x800, 0xD800), (0x10000, 0x110000)][d.below(4) as usize];
+        let size = sizes[d.below(sizes.len() as u64) as usize];
+        let (from, to) = [(0x20, 0x7F), (0x80, 0x800), (0x800, 0xD800), (0x10000, 0x110000)][size - 1];
         text.push(char::from_u32((from + d.below(to - from)) as u32).unwrap());
     }
     while text.len() < n {

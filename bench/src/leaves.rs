@@ -1,11 +1,20 @@
 //! The lowest layers, by the archive of the crate `gauge`: the UTF-8 check and numbers in bytes.
-use crate::buffers::{bytes, mixed, Dice};
+use crate::buffers::{bytes, text, Dice};
 use crate::clock::row;
 use std::hint::black_box;
 
 const MIB: usize = 1 << 20;
 const PAIRS: usize = 100_000;
 const NINES: usize = 100_000;
+
+// ---- the bytes of a text's characters
+const MIXED: [usize; 4] = [1, 2, 3, 4];
+
+fn lyrics() -> [usize; 40] {
+    let mut sizes = [1; 40];
+    sizes[0] = 2;
+    sizes
+}
 
 // ---- ours: a `&[u8]` passes as a pointer and then a length, and neither function requires anything
 mod raw {
@@ -75,15 +84,18 @@ fn compare(name: &str, s: &[u8], ours: fn(&[u8]) -> u64, rusts: fn(&[u8]) -> u64
 
 pub fn rows() {
     let ascii = bytes(MIB, 0x20, 0x7F);
-    let text = mixed(&mut Dice(2), MIB);
+    let mixed = text(&mut Dice(2), MIB, &MIXED);
+    let lyrics = text(&mut Dice(5), MIB, &lyrics());
     let d = &mut Dice(4);
-    let nines: Vec<u8> = (0..NINES).flat_map(|_| mixed(d, 9)).collect();
+    let nines: Vec<u8> = (0..NINES).flat_map(|_| text(d, 9, &MIXED)).collect();
     let fields = bytes(12 * PAIRS, 0, 256);
-    assert!(our_utf8(&ascii) == 1 && our_utf8(&text) == 1 && our_utf8(&fields) == 0);
+    assert!(our_utf8(&ascii) == 1 && our_utf8(&mixed) == 1 && our_utf8(&fields) == 0);
     agree_on_damage(&ascii);
-    agree_on_damage(&text);
+    agree_on_damage(&lyrics);
+    agree_on_damage(&mixed);
     compare("UTF-8 check, 1 MiB of ASCII", &ascii, our_utf8, rust_utf8);
-    compare("UTF-8 check, 1 MiB of mixed text", &text, our_utf8, rust_utf8);
+    compare("UTF-8 check, 1 MiB of lyrics", &lyrics, our_utf8, rust_utf8);
+    compare("UTF-8 check, 1 MiB of mixed text", &mixed, our_utf8, rust_utf8);
     compare("UTF-8 check, 100,000 texts of 9 bytes of ASCII", &ascii[..9 * NINES], our_nines, rust_nines);
     compare("UTF-8 check, 100,000 texts of 9 bytes, mixed", &nines, our_nines, rust_nines);
     compare("100,000 pairs of u32 and u64 read", &fields, our_fields, rust_fields);

@@ -190,18 +190,18 @@ fn a_card_with_byte_127_mounts_and_look_up_alone_shows_it() {
     assert_eq!(host.module_return(0), Fate::Committed { events: 0, bytes: 0 });
 }
 
-/// 02, A3: what is looked at eight bytes at a time is UTF-8 just where Rust says so. Bytes that are none or a part of a character, and whole characters, at
-/// every place of texts of 0 to 25 letters, which begin anywhere between two eights.
+/// 02, A3: a string is looked at eight bytes at a time, and is UTF-8 just where Rust says so. A byte that begins no character, characters, and these cut
+/// short, at every place of 0 to 25 letters; a character in front moves them.
 #[test]
-fn a_string_is_utf8_or_it_is_refused_at_every_place() {
-    let odd = [&b""[..], b"\x80", b"\xFF", b"\xC3", b"\xE2\x99", b"\xF0\x9D\x84", "é".as_bytes(), "♪".as_bytes(), "𝄞".as_bytes()];
+fn a_string_is_utf8_or_refused_wherever_a_character_stands() {
+    let odd = ["", "80", "FF", "C3", "C3A9", "E299", "E299AA", "F09D84", "F09D849E"].map(bytes);
     let mut host = Host::mount(buffers(), 0).ok().unwrap();
     let mut memory = vec![0; 65_536];
     for (front, len) in ["", "é", "♪"].iter().flat_map(|front| (0..=25).map(move |len| (front.as_bytes(), len))) {
         let letters = vec![b'a'; len];
         for at in 0..=len {
             assert_eq!(host.begin(&weave(1_000, 0)), Ok(0));
-            for odd in odd {
+            for odd in &odd {
                 let words = [front, &letters[..at], odd, &letters[at..]].concat();
                 let answer = std::str::from_utf8(&words).map(|_| 0).map_err(|_| -7);
                 assert_eq!(sing(&mut host, &mut memory, &words), answer, "{words:x?}");
@@ -209,4 +209,8 @@ fn a_string_is_utf8_or_it_is_refused_at_every_place() {
             assert_eq!(host.module_return(2), Fate::Discarded(-5));
         }
     }
+}
+
+fn bytes(digits: &str) -> Vec<u8> {
+    (0..digits.len()).step_by(2).map(|i| u8::from_str_radix(&digits[i..i + 2], 16).unwrap()).collect()
 }
