@@ -14,7 +14,7 @@ pub fn bytes(n: usize, from: u64, to: u64) -> Vec<u8> {
     (0..n).map(|_| (from + d.below(to - from)) as u8).collect()
 }
 
-/// Characters of as many bytes as `sizes` has, each as likely as the next and in no order; ASCII where no more fit.
+/// So many bytes of text, the length of each character picked from `sizes`, in no order; ASCII where no more fit.
 pub fn text(d: &mut Dice, n: usize, sizes: &[usize]) -> Vec<u8> {
     let mut text = String::new();
     while text.len() + 4 <= n {

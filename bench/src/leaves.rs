@@ -7,14 +7,13 @@ const MIB: usize = 1 << 20;
 const PAIRS: usize = 100_000;
 const NINES: usize = 100_000;
 
-// ---- the bytes of a text's characters
+// ---- how long a text's characters are: each entry is as likely as the next
 const MIXED: [usize; 4] = [1, 2, 3, 4];
-
-fn lyrics() -> [usize; 40] {
+const LYRICS: [usize; 40] = {
     let mut sizes = [1; 40];
     sizes[0] = 2;
     sizes
-}
+};
 
 // ---- ours: a `&[u8]` passes as a pointer and then a length, and neither function requires anything
 mod raw {
@@ -85,11 +84,12 @@ fn compare(name: &str, s: &[u8], ours: fn(&[u8]) -> u64, rusts: fn(&[u8]) -> u64
 pub fn rows() {
     let ascii = bytes(MIB, 0x20, 0x7F);
     let mixed = text(&mut Dice(2), MIB, &MIXED);
-    let lyrics = text(&mut Dice(5), MIB, &lyrics());
+    let lyrics = text(&mut Dice(5), MIB, &LYRICS);
     let d = &mut Dice(4);
     let nines: Vec<u8> = (0..NINES).flat_map(|_| text(d, 9, &MIXED)).collect();
     let fields = bytes(12 * PAIRS, 0, 256);
-    assert!(our_utf8(&ascii) == 1 && our_utf8(&mixed) == 1 && our_utf8(&fields) == 0);
+    assert!([&ascii, &lyrics, &mixed].iter().all(|s| our_utf8(s) == 1) && our_utf8(&fields) == 0);
+    assert!(our_nines(&ascii[..9 * NINES]) == NINES as u64 && our_nines(&nines) == NINES as u64);
     agree_on_damage(&ascii);
     agree_on_damage(&lyrics);
     agree_on_damage(&mixed);

@@ -190,18 +190,19 @@ fn a_card_with_byte_127_mounts_and_look_up_alone_shows_it() {
     assert_eq!(host.module_return(0), Fate::Committed { events: 0, bytes: 0 });
 }
 
-/// 02, A3: a string is looked at eight bytes at a time, and is UTF-8 just where Rust says so. A byte that begins no character, characters, and these cut
-/// short, at every place of 0 to 25 letters; a character in front moves them.
+/// 02, A3: a string is looked at eight bytes at a time, and is UTF-8 just where Rust says so. Bytes that begin no character, characters, and these less
+/// their last byte, at every place of 0 to 25 letters; a character in front moves them.
 #[test]
 fn a_string_is_utf8_or_refused_wherever_a_character_stands() {
-    let odd = ["", "80", "FF", "C3", "C3A9", "E299", "E299AA", "F09D84", "F09D849E"].map(bytes);
+    let [e, note, clef] = ["é", "♪", "𝄞"].map(str::as_bytes);
+    let odd = [&b""[..], b"\x80", b"\xFF", &e[..1], e, &note[..2], note, &clef[..3], clef];
     let mut host = Host::mount(buffers(), 0).ok().unwrap();
     let mut memory = vec![0; 65_536];
-    for (front, len) in ["", "é", "♪"].iter().flat_map(|front| (0..=25).map(move |len| (front.as_bytes(), len))) {
-        let letters = vec![b'a'; len];
-        for at in 0..=len {
+    for front in [&e[..0], e, note] {
+        for (len, at) in (0..=25).flat_map(|len| (0..=len).map(move |at| (len, at))) {
+            let letters = vec![b'a'; len];
             assert_eq!(host.begin(&weave(1_000, 0)), Ok(0));
-            for odd in &odd {
+            for odd in odd {
                 let words = [front, &letters[..at], odd, &letters[at..]].concat();
                 let answer = std::str::from_utf8(&words).map(|_| 0).map_err(|_| -7);
                 assert_eq!(sing(&mut host, &mut memory, &words), answer, "{words:x?}");
@@ -209,8 +210,4 @@ fn a_string_is_utf8_or_refused_wherever_a_character_stands() {
             assert_eq!(host.module_return(2), Fate::Discarded(-5));
         }
     }
-}
-
-fn bytes(digits: &str) -> Vec<u8> {
-    (0..digits.len()).step_by(2).map(|i| u8::from_str_radix(&digits[i..i + 2], 16).unwrap()).collect()
 }

@@ -27,7 +27,7 @@ fn long(k: usize, n: usize) {
     good(k, le::front(&a, n));
 }
 
-// Whether n letters with these bytes over them, from a place on, are UTF-8.
+// Whether n letters with these bytes over them, from a place on, are UTF-8. There are 64 letters: a case has to fit.
 fn laid(s: &[u8], at: usize, n: usize) -> bool {
     let mut a = [97u8; 64];
     le::lay(s, &mut a, at);

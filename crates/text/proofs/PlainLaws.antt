@@ -1,9 +1,9 @@
 -- Eight bytes at once: those below 128 do not change whether a text is UTF-8, and plain ones, from 32 to 126, not whether it has a byte that may not stand there, by
 -- either rule.
 -- Assumes nothing.
-use mathlib.Core.Path.{_≡_, refl, sym, ap, _∙_}
-use mathlib.Core.Bool.{Bool, true, false, _&&_, true≢false}
-use mathlib.Core.List.{List, [], _∷_}
+use mathlib.Core.Path.{_≡_, refl, sym, _∙_}
+use mathlib.Core.Bool.{Bool, true, _&&_, true≢false}
+use mathlib.Core.List.{List, []}
 use Prim.Native.Nat.{ℕ, zero, suc, _+_, _*_, _/_, _%_, _^_, _≤_, _<_}
 use native.Mathlib.Nat.{add-zero}
 use native.Mathlib.Omega.{arith}
@@ -16,11 +16,11 @@ use Rattle.le.specs.Le.{Bytes, leAt}
 use Rattle.le.proofs.SpliceLaws.{drop-head}
 use Rattle.le.proofs.OnceLaws.{ByBytes, passed-at-once, no-bytes, same-by-bytes, clear, clear-by-bytes, and-bytes, both-by-bytes}
 use Rattle.le.proofs.TestLaws.{and-left, and-both}
-use Rattle.text.specs.Utf8.{Range, utf8, utf8From}
+use Rattle.text.specs.Utf8.{utf8}
 use Rattle.text.specs.declared.topic.Rule.{Rule}
 use Rattle.text.specs.declared.topic.Rule.the-variants.{Called, Kept}
 use Rattle.text.specs.Topic.{mayStand, noControl}
-use Rattle.text.proofs.Utf8Laws.{after-low}
+use Rattle.text.proofs.Utf8Laws.{utf8-low}
 
 -- the number of w bytes that are all c
 abbrev pub alike : ℕ → ℕ → ℕ
@@ -90,10 +90,6 @@ plain-stands rule b e = go rule
     go Called = rw (le-leb 32 b least, ne-eqb b 127 (λ q. true≢false (sym (rw q at e))))
 
 -- ---- for the loop: `all` is what the whole text gives
-
-utf8-low : (b : ℕ) (bs : List ℕ) → b < 128 → utf8 (b ∷ bs) ≡ utf8 bs
-unfolding utf8 utf8From
-utf8-low b bs h = ap (λ (r : List Range). utf8From r bs) (after-low b h)
 
 module _ (s : List ℕ) (i : ℕ) (all : Bool) (h : Bytes s) (l : i + 8 ≤ length s) where
   pub utf8-eight : bitAnd (leAt 8 s i) 0x8080808080808080 ≡ 0 → utf8 (drop i s) ≡ all → utf8 (drop (i + 8) s) ≡ all

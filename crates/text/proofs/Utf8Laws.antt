@@ -50,9 +50,14 @@ row-asks from n left lo hi t r e b l h =
 
 -- ---- characters
 
-pub after-low : (b : ℕ) → b < 128 → after b ≡ []
+after-low : (b : ℕ) → b < 128 → after b ≡ []
 unfolding after
 after-low b h = rw (lt-ltb b 128 h)
+
+-- a byte below 128 is a character by itself
+pub utf8-low : (b : ℕ) (bs : List ℕ) → b < 128 → utf8 (b ∷ bs) ≡ utf8 bs
+unfolding utf8 utf8From
+utf8-low b bs h = ap (λ (r : List Range). utf8From r bs) (after-low b h)
 
 -- what is due, and then characters
 utf8-parts : (rs : List Range) (bs : List ℕ) → utf8From rs bs ≡ utf8From rs (take (length rs) bs) && utf8 (drop (length rs) bs)
@@ -83,8 +88,7 @@ module _ (s : List ℕ) (i : ℕ) (all : Bool) (h : i < length s) (inv : utf8 (d
   begun = rw (drop-head s i (i + 1) h (omega arith)) at inv
 
   pub ascii-passed : getD s i 0 < 128 → utf8 (drop (i + 1) s) ≡ all
-  unfolding utf8
-  ascii-passed l = rw (after-low (getD s i 0) l) at begun
+  ascii-passed l = rw (drop-head s i (i + 1) h (omega arith), utf8-low (getD s i 0) (drop (i + 1) s) l) at inv
 
   module _ (left lo hi : ℕ) (e : due left lo hi ≡ after (getD s i 0)) where
     pub cut-short : length s - i ≤ left → false ≡ all

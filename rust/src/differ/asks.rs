@@ -99,9 +99,15 @@ fn value(d: &mut Dice, twin: &mut Twin, most: usize) -> u64 {
         ]),
         5 | 9 => {
             let n = d.index(most + 1);
-            let mut bytes = if kind == 5 { stock::lyrics(n / 8 * 13, n % 25) } else { d.bytes(n) };
+            let mut bytes = if kind == 5 { stock::lyrics(n, d.index(25)) } else { d.bytes(n) };
             if d.one_in(8) {
-                bytes.insert(n % (bytes.len() + 1), d.byte());
+                // a byte that may not stand there, or an end inside a character
+                let (at, odd) = (d.index(n + 1), d.byte());
+                if odd < 128 {
+                    bytes.truncate(at);
+                } else {
+                    bytes.insert(at, odd);
+                }
             }
             let at = put_somewhere(d, twin, &bytes);
             let len = if d.one_in(10) { d.edge(memory(twin)) } else { bytes.len() as u64 };

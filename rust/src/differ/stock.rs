@@ -173,7 +173,7 @@ pub fn value(d: &mut Dice) -> Value {
             1,
             0x8000_0000_0000_0000,
         ])),
-        5 => Kind::Text(lyrics(12 * n, n)),
+        5 => Kind::Text(lyrics(12 * n, d.index(25))),
         _ => Kind::Bytes(d.bytes(n)),
     };
     Value { flags: d.word() as u32, kind }

@@ -1,6 +1,6 @@
 -- `text::utf8::past_ascii` meets its contract: what is left is UTF-8 just where the text from `at` on is. Assumes nothing.
 use mathlib.Core.Path.{_≡_, refl}
-use Prim.Native.Nat.{_≤_, _-_, _+_}
+use Prim.Native.Nat.{_≤_, _-_}
 use native.Mathlib.Omega.{arith}
 use denote.Ref.{now}
 use lib.Bits.{bitAnd}
