@@ -83,6 +83,7 @@ length-due (suc n) lo hi = ap suc (length-tails n)
 
 -- for the loop over the characters: `all` is what the whole text gives
 module _ (s : List ℕ) (i : ℕ) (all : Bool) (h : i < length s) (inv : utf8 (drop i s) ≡ all) where
+  -- what its first byte asks for, and then characters
   begun : utf8From (after (getD s i 0)) (drop (i + 1) s) ≡ all
   unfolding utf8 utf8From
   begun = rw (drop-head s i (i + 1) h (omega arith)) at inv
@@ -91,9 +92,11 @@ module _ (s : List ℕ) (i : ℕ) (all : Bool) (h : i < length s) (inv : utf8 (d
   ascii-passed l = rw (drop-head s i (i + 1) h (omega arith), utf8-low (getD s i 0) (drop (i + 1) s) l) at inv
 
   module _ (left lo hi : ℕ) (e : due left lo hi ≡ after (getD s i 0)) where
+    -- the text ends inside the character
     pub cut-short : length s - i ≤ left → false ≡ all
     cut-short k = sym (utf8-short (due left lo hi) (drop (i + 1) s) (omega (arith, length-drop (i + 1) s, length-due left lo hi))) ∙ (rw (← e) at begun)
 
+    -- the bytes that are asked for, and the text behind the character
     parted : utf8From (due left lo hi) (part (i + 1) left s) && utf8 (drop (i + (1 + left)) s) ≡ all
     unfolding part
     parted =
@@ -117,6 +120,7 @@ due-tails zero = refl
 due-tails (suc n) = refl
 
 module _ (s : List ℕ) (i end : ℕ) (all : Bool) (h : i < end) (k : end ≤ length s) (lo hi : ℕ) (inv : utf8From (due (end - i) lo hi) (part i (end - i) s) ≡ all) where
+  -- the byte at i, and what is due behind it
   asked : within (to lo hi) (getD s i 0) && utf8From (tails (end - (i + 1))) (part (i + 1) (end - (i + 1)) s) ≡ all
   unfolding utf8From
   asked =
