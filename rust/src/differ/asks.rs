@@ -98,17 +98,7 @@ fn value(d: &mut Dice, twin: &mut Twin, most: usize) -> u64 {
             u64::MAX,
         ]),
         5 | 9 => {
-            let n = d.index(most + 1);
-            let mut bytes = if kind == 5 { stock::lyrics(n, d.index(25)) } else { d.bytes(n) };
-            if d.one_in(8) {
-                // a byte that may not stand there, or an end inside a character
-                let (at, odd) = (d.index(n + 1), d.byte());
-                if odd < 128 {
-                    bytes.truncate(at);
-                } else {
-                    bytes.insert(at, odd);
-                }
-            }
+            let bytes = words(d, kind, most);
             let at = put_somewhere(d, twin, &bytes);
             let len = if d.one_in(10) { d.edge(memory(twin)) } else { bytes.len() as u64 };
             cell[16..24].copy_from_slice(&len.to_le_bytes());
@@ -124,6 +114,20 @@ fn value(d: &mut Dice, twin: &mut Twin, most: usize) -> u64 {
     let at = room(d, twin, 32);
     twin.poke(Buffer::Memory, at, &cell);
     at
+}
+
+/// What a string or bytes (9) hold. One in eight ends inside a character or has a byte where it may not stand.
+fn words(d: &mut Dice, kind: u64, most: usize) -> Vec<u8> {
+    let n = d.index(most + 1);
+    let mut bytes = if kind == 9 { d.bytes(n) } else { stock::lyrics(n, d.index(25)) };
+    if d.one_in(8) {
+        let (at, odd) = (d.index(n + 1), d.byte());
+        match odd {
+            0..128 => bytes.extend(&"𝄞".as_bytes()[..1 + at % 3]),
+            128.. => bytes.insert(at, odd),
+        }
+    }
+    bytes
 }
 
 /// An out buffer: aligned, of so many bytes at most.
