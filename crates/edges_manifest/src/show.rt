@@ -1,10 +1,19 @@
 // What is written: a case, and the answer.
 use cases::number;
 use manifest::Manifest;
+use manifest::charge::Charge;
 use manifest::grant::Grant;
+use manifest::head::Head;
 use saying::word;
 use text::compare::same;
 use text::lines::field;
+
+fn edition(charge: Charge) -> u64 {
+    match charge {
+        Charge::First => 1,
+        Charge::Second => 2,
+    }
+}
 
 // What a text is read as, behind its name.
 pub(crate) fn answer(label: &[u8], text: &[u8]) {
@@ -12,7 +21,11 @@ pub(crate) fn answer(label: &[u8], text: &[u8]) {
     let m = Manifest::read(text);
     if m.good {
         word(b": good, modules");
-        saying::number(m.modules);
+        let head = m.head;
+        saying::number(head.modules);
+        word(b", charge");
+        let charge = head.charge;
+        saying::number(edition(charge));
         word(b", grants");
         saying::number(m.count as u64);
         word(b"\n");
@@ -46,9 +59,13 @@ pub(crate) fn by_hand(l: &[u8]) {
         holder: 1,
         out: false,
     };
+    let head = Head {
+        modules: 1,
+        charge: Charge::Second,
+    };
     let m = Manifest {
         good: true,
-        modules: 1,
+        head,
         count: 0xFFFF_FFFF_FFFF_FFFF,
         grants: [far; 64],
     };

@@ -87,14 +87,15 @@ fn lend(was: [usize; 4], buffer: &[u8], n: usize) -> [usize; 4] {
     is
 }
 
-// 0 box, 1 lend, 2 modules, 3 grant: how much of memory, staging, card and manifest is lent from now on.
+// 0 box, 1 lend, 2 modules, 3 charge, 4 grant: how much of memory, staging, card and manifest is lent from now on.
 pub(crate) fn lengths(was: [usize; 4], l: &[u8], manifest: &mut Buffer) -> [usize; 4] {
     let n = number(l, 2) as usize;
-    match which(b"box\tlend\tmodules\tgrant", field(l, 0)) {
+    match which(b"box\tlend\tmodules\tcharge\tgrant", field(l, 0)) {
         0 => [number(l, 3) as usize, number(l, 1) as usize, n, was[3]],
         1 => lend(was, field(l, 1), n),
         2 => [was[0], was[1], was[2], told(0, l, manifest)],
         3 => [was[0], was[1], was[2], told(was[3], l, manifest)],
+        4 => [was[0], was[1], was[2], told(was[3], l, manifest)],
         _ => was,
     }
 }

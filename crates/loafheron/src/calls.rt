@@ -1,5 +1,6 @@
 // The module calls: the arguments lie at `at` in the module's memory.
 ghost use mathlib.Core.Path.{_≡_};
+ghost use Rattle.manifest.specs.Saying.{chargeOf};
 ghost use Rattle.host.specs.Hosts.{lentAs};
 ghost use Rattle.writes.specs.Stage.{writeAnswer, writeStaging};
 ghost use Rattle.reads.specs.Reading.{readAnswer, readMemory};
@@ -24,8 +25,8 @@ pub extern "C" fn loafheron_write(
     manifest: &[u8],
     at: u64,
 ) -> Reply
-    ensures answer { λ r. ⌜ r ≡ reply (writeAnswer (lentAs (now (staging .entry)) (now (card .entry)) (now («manifest» .entry))) (hostSaid state) (now (memory .entry)) at) ⌝ }
-    ensures bytes { λ _. ⌜ now (staging .exit) ≡ writeStaging (lentAs (now (staging .entry)) (now (card .entry)) (now («manifest» .entry))) (hostSaid state) (now (memory .entry)) at ⌝ }
+    ensures answer { λ r. ⌜ r ≡ reply (writeAnswer (chargeOf (now («manifest» .entry))) (lentAs (now (staging .entry)) (now (card .entry)) (now («manifest» .entry))) (hostSaid state) (now (memory .entry)) at) ⌝ }
+    ensures bytes { λ _. ⌜ now (staging .exit) ≡ writeStaging (chargeOf (now («manifest» .entry))) (lentAs (now (staging .entry)) (now (card .entry)) (now («manifest» .entry))) (hostSaid state) (now (memory .entry)) at ⌝ }
 {
     let h = host_said(state);
     let a = write(h, memory, staging, card, manifest, at);

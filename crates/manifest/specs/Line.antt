@@ -11,7 +11,7 @@ use Rattle.text.specs.Topic.{goodTopic}
 use Rattle.text.specs.Compare.{sameBytes}
 use Rattle.text.specs.Lines.{fields, field}
 use Rattle.text.specs.Decimal.{numberOf}
-use Rattle.manifest.specs.Words.{modulesWord, grantWord, inWord, outWord}
+use Rattle.manifest.specs.Words.{modulesWord, chargeWord, grantWord, inWord, outWord}
 use Rattle.manifest.specs.Rights.{Right}
 
 -- a number that may be at most `most`, 0 for any other and for none
@@ -23,9 +23,17 @@ atMost most (Is n) = cond (leb n most) n 0
 unfoldable pub oneTo : ℕ → List ℕ → ℕ
 oneTo most s = atMost most (numberOf s)
 
--- "fields parted by one tab", "Line one: `modules`, then 1 to 16.": that number, 0 for any other line
+-- "fields parted by one tab": a line of two, a word and a number from 1 to `most`: that number, 0 for any other line
+unfoldable pub numberIn : List ℕ → ℕ → List ℕ → ℕ
+numberIn word most line = cond (eqb (length (fields line)) 2 && sameBytes (field 0 line) word) (oneTo most (field 1 line)) 0
+
+-- "Line one: `modules`, then 1 to 16."
 unfoldable pub modulesIn : List ℕ → ℕ
-modulesIn line = cond (eqb (length (fields line)) 2 && sameBytes (field 0 line) modulesWord) (oneTo 16 (field 1 line)) 0
+modulesIn line = numberIn modulesWord 16 line
+
+-- 02, A11: "A manifest line `charge` .. names 1 .. or 2."
+unfoldable pub chargeIn : List ℕ → ℕ
+chargeIn line = numberIn chargeWord 2 line
 
 -- "`grant`, module number, `in` or `out`, topic", but for the module number. "A topic .. has a length within its sizes and is UTF-8 with no byte from 0
 -- to 31": so it holds no tab, and no byte 10. 02, A2: "no grant can name" a topic with byte 127.

@@ -4,28 +4,38 @@ use mathlib.Core.Bool.{Bool, true, false, _&&_, cond}
 use mathlib.Core.List.{List, [], _∷_, map}
 use Prim.Native.Nat.{ℕ}
 use lib.Dec.{leb, ltb}
-use lib.ListN.{length, drop}
-use Rattle.text.specs.Lines.{lines, lineAt, closed}
+use lib.ListN.{length}
+use Rattle.text.specs.Lines.{closed}
+use Rattle.manifest.specs.declared.charge.Charge.{Charge}
+use Rattle.manifest.specs.declared.charge.Charge.the-variants.{First}
+use Rattle.manifest.specs.declared.head.Head.{Head}
 use Rattle.manifest.specs.Rights.{Right, granted}
-use Rattle.manifest.specs.Line.{modulesIn, holderIn, rightIn}
+use Rattle.manifest.specs.Line.{holderIn, rightIn}
+use Rattle.manifest.specs.Charge.{chargeBy}
+use Rattle.manifest.specs.Head.{modulesOf, headOf, grantLines}
 
--- nothing, as the manifest is bad; or the number of modules, and what the grants give
+-- nothing, as the manifest is bad; or its head, and what the grants give
 pub data Said : Type 0 where
   bad : Said
-  good : ℕ → List Right → Said
+  good : Head → List Right → Said
 
 -- what callers ask of it
 abbrev pub isGood : Said → Bool
 isGood bad = false
-isGood (good n gs) = true
+isGood (good h gs) = true
 
 abbrev pub modulesSaid : Said → ℕ
 modulesSaid bad = 0
-modulesSaid (good n gs) = n
+modulesSaid (good h gs) = h .modules
+
+-- of a bad one the first: check 1 refuses the call, so that nothing is paid by it
+abbrev pub chargeSaid : Said → Charge
+chargeSaid bad = First
+chargeSaid (good h gs) = h .charge
 
 abbrev pub rightsSaid : Said → List Right
 rightsSaid bad = []
-rightsSaid (good n gs) = gs
+rightsSaid (good h gs) = gs
 
 -- every line is a grant
 unfoldable pub allGrants : ℕ → List (List ℕ) → Bool
@@ -36,24 +46,21 @@ allGrants modules (l ∷ ls) = ltb 0 (holderIn modules l) && allGrants modules l
 unfoldable pub goodGrants : ℕ → List (List ℕ) → Bool
 goodGrants modules ls = leb (length ls) 64 && allGrants modules ls
 
--- the lines of grants: those behind line one. (A line that may be left out would be taken off here.)
-unfoldable pub grantLines : List ℕ → List (List ℕ)
-grantLines text = drop 1 (lines text)
-
--- what line one says
-unfoldable pub modulesOf : List ℕ → ℕ
-modulesOf text = modulesIn (lineAt 0 text)
-
 -- "manifest at most 65,536", "Lines of text, each closed by byte 10", and line one
 unfoldable pub goodHead : List ℕ → Bool
 goodHead text = leb (length text) 65536 && (closed text && ltb 0 (modulesOf text))
 
-unfoldable pub grantsSaid : ℕ → List (List ℕ) → Said
-grantsSaid modules ls = cond (goodGrants modules ls) (good modules (map (rightIn modules) ls)) bad
+-- what the lines of grants behind a head say with it
+unfoldable pub grantsSaid : Head → List (List ℕ) → Said
+grantsSaid h ls = cond (goodGrants (h .modules) ls) (good h (map (rightIn (h .modules)) ls)) bad
 
 -- what the bytes of a manifest say
 unfoldable pub manifestOf : List ℕ → Said
-manifestOf text = cond (goodHead text) (grantsSaid (modulesOf text) (grantLines text)) bad
+manifestOf text = cond (goodHead text) (grantsSaid (headOf text) (grantLines text)) bad
+
+-- The charge rule that it names: from a record's length to units.
+unfoldable pub chargeOf : List ℕ → ℕ → ℕ
+chargeOf text = chargeBy (chargeSaid (manifestOf text))
 
 -- Whether module k is granted `in` on exactly this topic by the manifest that the text is: no module is by a bad one.
 unfoldable pub mayRead : List ℕ → ℕ → List ℕ → Bool

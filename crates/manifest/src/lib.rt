@@ -1,7 +1,11 @@
-// The manifest: how many modules there are, and which of them may write, read and list which topics.
+// The manifest: how many modules there are, what a write costs, and which modules may write, read and list which topics.
 //
 // A text is read once a call, to the places of its grants: nothing is copied, and each question is then a few comparisons.
+use crate::charge::Charge;
 use crate::grant::Grant;
+use crate::head::Head;
+use crate::head::passed;
+use crate::reading::charge_at;
 use crate::reading::modules_in;
 use text::limits::Limits;
 use text::lines::closed;
@@ -12,15 +16,17 @@ ghost use Prim.Native.Nat.{_≤_, _<_};
 ghost use lib.ListN.{length, drop};
 ghost use Rattle.text.specs.Lines.{lines};
 ghost use Rattle.manifest.specs.Rights.{granted};
-ghost use Rattle.manifest.specs.Places.{refused, readLines, readOf, rightsOf};
+ghost use Rattle.manifest.specs.Places.{refused, readLines, readRest, readOf, rightsOf};
 
+pub mod charge;
 pub mod grant;
+pub mod head;
 mod reading;
 
-// What a text is read as. The first `count` grants are its own; where it is not good all is 0.
+// What a text is read as. The first `count` grants are its own. Where it is not good it has no module and no grant, and the first charge rule.
 pub struct Manifest {
     pub good: bool,
-    pub modules: u64,
+    pub head: Head,
     pub count: usize,
     pub grants: [Grant; Limits::GRANTS],
 }
@@ -31,19 +37,23 @@ impl Manifest {
         ensures { λ r. ⌜ r ≡ refused ⌝ }
     {
         let grants = Grant::none();
+        let head = Head {
+            modules: 0,
+            charge: Charge::First,
+        };
         Manifest {
             good: false,
-            modules: 0,
+            head,
             count: 0,
             grants,
         }
     }
 
-    // The lines from `at` on, behind line one, each of which must be a grant.
-    fn read_grants(text: &[u8], at: usize, modules: u64) -> Manifest
+    // The lines from `at` on, behind the head, each of which must be a grant.
+    fn read_grants(text: &[u8], at: usize, head: Head) -> Manifest
         requires { ⌜ (0 < at) × (length (now text) ≤ 65536) ⌝ }
-        requires { ⌜ modules ≤ 16 ⌝ }
-        ensures { λ r. ⌜ r ≡ readLines modules at (lines (drop at (now (text .entry)))) ⌝ }
+        requires { ⌜ head .modules ≤ 16 ⌝ }
+        ensures { λ r. ⌜ r ≡ readLines head at (lines (drop at (now (text .entry)))) ⌝ }
     {
         let mut grants = Grant::none();
         let mut count: usize = 0;
@@ -54,7 +64,7 @@ impl Manifest {
             }
             let here = line(text, from);
             let end = from + here.len();
-            let g = Grant::at(here, end, modules);
+            let g = Grant::at(here, end, head.modules);
             if g.holder == 0 {
                 return Manifest::refused();
             }
@@ -64,10 +74,22 @@ impl Manifest {
         }
         Manifest {
             good: true,
-            modules,
+            head,
             count,
             grants,
         }
+    }
+
+    // The lines from `at` on, behind line one: those that may be left out, then the grants.
+    fn read_rest(text: &[u8], at: usize, modules: u64) -> Manifest
+        requires { ⌜ (0 < at) × (at ≤ 65537) ⌝ }
+        requires { ⌜ (length (now text) ≤ 65536) × (modules ≤ 16) ⌝ }
+        ensures { λ r. ⌜ r ≡ readRest modules at (now (text .entry)) ⌝ }
+    {
+        let said = charge_at(text, at);
+        let from = passed(said, text, at);
+        let charge = Charge::named(said);
+        Manifest::read_grants(text, from, Head { modules, charge })
     }
 
     // The manifest that a text is; for a text that is none, one that is not good.
@@ -84,7 +106,7 @@ impl Manifest {
                 return Manifest::refused();
             }
             let at = one.len() + 1;
-            Manifest::read_grants(text, at, modules)
+            Manifest::read_rest(text, at, modules)
         } else {
             Manifest::refused()
         }

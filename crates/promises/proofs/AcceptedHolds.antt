@@ -97,7 +97,7 @@ module _ (w : World) where
     through : (cs : List Check) → Gated l h (length m) → All Passed cs → All Passed (gate w m ++ cs)
     through cs g p = (le-leb (length m) 1048576 (g .memory), (fine-lent (g .check-1), (g .running, (rw (g .unspoiled), (rw (g .unspoiled), p)))))
 
-    pub write-exactly : (isRefused (step w (Write m a) .said) ≡ false) ↔ WriteMay l h m a
+    pub write-exactly : (isRefused (step w (Write m a) .said) ≡ false) ↔ WriteMay (w .charge) l h m a
     write-exactly = (
       λ e. let p = accepted-exactly w (Write m a) .0 e in let g = gated (writeAsks w m a) p in search (leb-true, unless, no-fault),
       λ b.

@@ -68,10 +68,10 @@ late-of : (h : Host) (c : Code) (v : ℕ) (next : Host) → not (isFine (settle 
 late-of h c v next e = ap (λ (x : Host). x .weave .late) (host-is h c v next e)
 
 -- a write, panic or not
-written-late : (h : Host) (panic : Bool) (t d n : ℕ) → written h panic t d n .weave .late ≡ true
+written-late : (h : Host) (panic : Bool) (cost t d n : ℕ) → written h panic cost t d n .weave .late ≡ true
 unfolding written panicked withWeave holding paid spoilt
-written-late h true t d n = refl
-written-late h false t d n = refl
+written-late h true cost t d n = refl
+written-late h false cost t d n = refl
 
 -- a return, by what came of it
 fate-late : (h : Host) (f : Fate) → isRefused (Ended f) ≡ false → finished h f .weave .running ≡ true → finished h f .weave .late ≡ true
@@ -86,7 +86,7 @@ pub late-is : (w : World) (o : Op) → isRefused (step w o .said) ≡ false → 
 unfolding step beginAnswer ingressAnswer writeAnswer readAnswer openAnswer openNext nextAnswer nextHost closeAnswer closeNext returnAnswer withWeave begun begunWeave holding paid openedWith movedTo closedAt tabled
 late-is w (Begin args) e r = late-of (w .host) _ 0 _ e
 late-is w (Ingress topic payload) e r = late-of (w .host) _ 0 _ e
-late-is w (Write m a) e r = late-of (w .host) _ 0 _ e ∙ written-late (w .host) (isPanic m a) _ _ _
+late-is w (Write m a) e r = late-of (w .host) _ 0 _ e ∙ written-late (w .host) (isPanic m a) _ _ _ _
 late-is w (Read m a) e r = late-of (w .host) (readCheck (w .lent) (w .host) m a) _ _ e
 late-is w (Open m a) e r = late-of (w .host) _ _ _ e
 late-is w (Next m a) e r = late-of (w .host) (nextCheck (w .lent) (w .host) m a) _ _ e

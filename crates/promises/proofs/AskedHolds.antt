@@ -61,7 +61,7 @@ asked-by w m a k e =
 pub panic-left : (w : World) (m : List ℕ) (a : ℕ) → isRefused (step w (Write m a) .said) ≡ false → isPanic m a ≡ true → PanicLeft w (step w (Write m a))
 unfolding step writeAnswer writeStaging settle turnedAway written panicked paid spoilt
 panic-left w m a e p =
-    let c = settle-ok (w .host) (writeCheck (w .lent) (w .host) m a) 0 _ e in
+    let c = settle-ok (w .host) (writeCheck (w .charge) (w .lent) (w .host) m a) 0 _ e in
     record {
       answer = rw c;
       staging = rw (c, p);

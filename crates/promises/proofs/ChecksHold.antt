@@ -113,11 +113,11 @@ unfolding need
 two true b c = record { is = refl }
 two false b c = record { is = refl }
 
-stage-code : (h : Host) (p : Bool) (t d n : ℕ)
-    → Comes (stageCheck h p t d n) (check (p || roomFine h t d n) NoRoom ∷ check (p || leb (h .weave .units + writeCharge t d) (h .weave .resmax)) Budget ∷ [])
+stage-code : (h : Host) (p : Bool) (cost t d n : ℕ)
+    → Comes (stageCheck h p cost t d n) (check (p || roomFine h t d n) NoRoom ∷ check (p || leb (h .weave .units + cost) (h .weave .resmax)) Budget ∷ [])
 unfolding stageCheck budgetCheck
-stage-code h true t d n = record { is = refl }
-stage-code h false t d n = then _ NoRoom _ _ refl (last _ Budget)
+stage-code h true cost t d n = record { is = refl }
+stage-code h false cost t d n = then _ NoRoom _ _ refl (last _ Budget)
 
 module _ (w : World) where
   abbrev l : Lent
@@ -146,13 +146,13 @@ module _ (w : World) where
     gated : (c : Code) (cs : List Check) → Comes c cs → Comes (first (gateCheck l h (length m)) c) (gate w m ++ cs)
     gated c cs = joined (gate w m) cs (gateCheck l h (length m)) c refl gate-code
 
-    pub write-code : Comes (writeCheck l h m a) (checksOf w (Write m a))
+    pub write-code : Comes (writeCheck (w .charge) l h m a) (checksOf w (Write m a))
     unfolding writeChecks
     write-code =
         gated _ (writeAsks w m a)
         (then _ Bad _ _ refl (then _ Bad _ _ refl (then _ Bad _ _ refl (then _ Bad _ _ refl (then _ Denied _ _ refl
         (joined (check _ Bad ∷ check _ BadValue ∷ []) _ _ _ refl (fault-code (payloadChecked m (writeArgs m a) .fault))
-        (stage-code h (isPanic m a) (writeArgs m a .topic .len) (dataLen m a) (length (l .staging)))))))))
+        (stage-code h (isPanic m a) (writeCharge (w .charge) m a) (writeArgs m a .topic .len) (dataLen m a) (length (l .staging)))))))))
 
     pub open-code : Comes (openCheck l h m a) (checksOf w (Open m a))
     unfolding openCheck budgetCheck

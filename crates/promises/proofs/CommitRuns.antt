@@ -15,9 +15,10 @@ use Rattle.text.specs.Decimal.{numberOf, noLeadingZero, numberFrom, digits, val
 use Rattle.text.specs.Lines.{closed, fields, lineAt, lines, field}
 use Rattle.text.specs.Topic.{goodText, goodTopic, noControl}
 use Rattle.text.specs.Utf8.{utf8, utf8From, after}
-use Rattle.manifest.specs.Line.{modulesIn, oneTo}
-use Rattle.manifest.specs.Words.{modulesWord}
-use Rattle.manifest.specs.Saying.{isGood, modulesSaid, manifestOf, goodHead, modulesOf, grantLines, grantsSaid, goodGrants, allGrants}
+use Rattle.manifest.specs.Line.{numberIn, modulesIn, chargeIn, oneTo}
+use Rattle.manifest.specs.Words.{modulesWord, chargeWord}
+use Rattle.manifest.specs.Head.{optional, beyond, modulesOf, headOf, grantLines}
+use Rattle.manifest.specs.Saying.{isGood, modulesSaid, manifestOf, goodHead, grantsSaid, goodGrants, allGrants}
 use Rattle.weave.specs.declared.Code.the-variants.{Fine}
 use Rattle.weave.specs.States.{freshWeave, begunWeave, holding}
 use Rattle.weave.specs.Sums.{added}
@@ -29,7 +30,7 @@ use Rattle.host.specs.Begin.{beginCheck, beginAnswer, beginStaging}
 use Rattle.writes.specs.Stage.{roomFine, ingressCheck, ingressAnswer, ingressStaging}
 use Rattle.host.specs.Hosts.{freshHost}
 use Rattle.mounts.specs.Mount.{mounted}
-use Rattle.promises.specs.Box.{World, Op, Begin, Ingress, Return, Ended, step, isRefused, mountedAs, run}
+use Rattle.promises.specs.Box.{World, Op, Begin, Ingress, Return, Ended, boxOf, step, isRefused, mountedAs, run}
 use Rattle.promises.specs.Outcome.{Conditions}
 use Rattle.promises.specs.Diary.{held, ingressRecord, firstPage}
 use Rattle.promises.proofs.AcceptedLaws.{settle-ok}
@@ -42,11 +43,11 @@ abbrev pub oneModule : List ℕ
 oneModule = 109 ∷ 111 ∷ 100 ∷ 117 ∷ 108 ∷ 101 ∷ 115 ∷ 9 ∷ 49 ∷ 10 ∷ []
 
 said-good : isGood (manifestOf oneModule) ≡ true
-unfolding manifestOf goodHead modulesOf grantLines grantsSaid goodGrants allGrants closed modulesIn fields lineAt lines sameBytes field modulesWord oneTo numberOf noLeadingZero numberFrom digits valueFrom
+unfolding manifestOf goodHead modulesOf headOf optional beyond grantLines grantsSaid goodGrants allGrants closed modulesIn chargeIn numberIn fields lineAt lines sameBytes field modulesWord chargeWord oneTo numberOf noLeadingZero numberFrom digits valueFrom
 said-good = refl
 
 said-one : modulesSaid (manifestOf oneModule) ≡ 1
-unfolding manifestOf goodHead modulesOf grantLines grantsSaid goodGrants allGrants closed modulesIn fields lineAt lines sameBytes field modulesWord oneTo numberOf noLeadingZero numberFrom digits valueFrom
+unfolding manifestOf goodHead modulesOf headOf optional beyond grantLines grantsSaid goodGrants allGrants closed modulesIn chargeIn numberIn fields lineAt lines sameBytes field modulesWord chargeWord oneTo numberOf noLeadingZero numberFrom digits valueFrom
 said-one = refl
 
 -- a topic of one letter
@@ -72,7 +73,7 @@ module _ (n c : ℕ) (n-least : 65536 ≤ n) (n-most : n ≤ 1048576) (c-least :
   e₀ = begin-exactly w₀ (zeros 128) .1 (record { check-1 = at₀ .check-1; idle = refl; healthy = refl; long = refl })
 
   abbrev w₁ : World
-  w₁ = record { host = withWeave (w₀ .host) (begun (zeros 128)); lent = lentAs (zeros (length (zeros n))) (zeros c) oneModule }
+  w₁ = boxOf (withWeave (w₀ .host) (begun (zeros 128))) (lentAs (zeros (length (zeros n))) (zeros c) oneModule)
 
   q₀ : step w₀ (Begin (zeros 128)) .world ≡ w₁
   unfolding step beginAnswer beginStaging settle
@@ -92,10 +93,9 @@ module _ (n c : ℕ) (n-least : 65536 ≤ n) (n-most : n ≤ 1048576) (c-least :
 
   -- the box with the event staged
   abbrev w₂ : World
-  w₂ = record {
-    host = withWeave (w₁ .host) (holding (w₁ .host .weave) 136 (length (w₁ .lent .staging)));
-    lent = lentAs (ingressStaging (w₁ .lent) (w₁ .host) (116 ∷ []) []) (zeros c) oneModule;
-  }
+  w₂ =
+      boxOf (withWeave (w₁ .host) (holding (w₁ .host .weave) 136 (length (w₁ .lent .staging))))
+      (lentAs (ingressStaging (w₁ .lent) (w₁ .host) (116 ∷ []) []) (zeros c) oneModule)
 
   q₁ : step w₁ (Ingress (116 ∷ []) []) .world ≡ w₂
   unfolding step ingressAnswer settle

@@ -13,7 +13,7 @@ use Rattle.writes.proofs as writes
 use Rattle.reads.proofs as reads
 use Rattle.host.specs.Hosts.{lentAs}
 use Rattle.mounts.specs.Mount.{mounted}
-use Rattle.promises.specs.Box.{Begin, Ingress, Write, Read, Open, Next, Close, Return, LookUp, Answered, Ended, Part, step, mountedAs}
+use Rattle.promises.specs.Box.{Begin, Ingress, Write, Read, Open, Next, Close, Return, LookUp, Answered, Ended, Part, boxOf, step, mountedAs}
 
 -- ---- mount
 
@@ -24,17 +24,17 @@ module _ (κs : Lfts 3) (a : Dens κs mounts.mount.mount.Kinds.ps) where
 
   pub mount-starts : (r : resT mounts.mount.mount.Kinds.r κs .Denot) (s : AtExit (endedOf 3 mounts.mount.mount.Kinds.ps mounts.mount.mount.Kinds.r) κs) → mounts.mount.mount.Reads.Learnt κs a r s
       → mountedAs (lentAs (now (a .0)) (now (a .1 .0)) (now (a .1 .1 .0))) (a .1 .1 .1 .0)
-      ≡ record { host = r .host; lent = lentAs (now (a .0)) (now (a .1 .0)) (now (a .1 .1 .0)) }
+      ≡ boxOf (r .host) (lentAs (now (a .0)) (now (a .1 .0)) (now (a .1 .1 .0)))
   mount-starts r s p = rw p
 
 -- ---- begin
 
 module _ (κs : Lfts 4) (a : Dens κs host.Host.begin.Kinds.ps) where
   pub begin-steps : (r : resT host.Host.begin.Kinds.r κs .Denot) (s : AtExit (endedOf 4 host.Host.begin.Kinds.ps host.Host.begin.Kinds.r) κs) → host.Host.begin.Reads.Learnt κs a r s
-      → step (record { host = a .0; lent = lentAs (now (a .1 .0)) (now (a .1 .1 .0)) (now (a .1 .1 .1 .0)) }) (Begin (now (a .1 .1 .1 .1 .0)))
+      → step (boxOf (a .0) (lentAs (now (a .1 .0)) (now (a .1 .1 .0)) (now (a .1 .1 .1 .0)))) (Begin (now (a .1 .1 .1 .1 .0)))
       ≡ record {
         said = Answered (r .code) (r .value);
-        world = record { host = r .host; lent = lentAs (now (s .1 .0)) (now (a .1 .1 .0)) (now (a .1 .1 .1 .0)) };
+        world = boxOf (r .host) (lentAs (now (s .1 .0)) (now (a .1 .1 .0)) (now (a .1 .1 .1 .0)));
         memory = [];
       }
   unfolding step
@@ -44,10 +44,10 @@ module _ (κs : Lfts 4) (a : Dens κs host.Host.begin.Kinds.ps) where
 
 module _ (κs : Lfts 5) (a : Dens κs writes.stage.ingress.Kinds.ps) where
   pub ingress-steps : (r : resT writes.stage.ingress.Kinds.r κs .Denot) (s : AtExit (endedOf 5 writes.stage.ingress.Kinds.ps writes.stage.ingress.Kinds.r) κs) → writes.stage.ingress.Reads.Learnt κs a r s
-      → step (record { host = a .0; lent = lentAs (now (a .1 .0)) (now (a .1 .1 .0)) (now (a .1 .1 .1 .0)) }) (Ingress (now (a .1 .1 .1 .1 .0)) (now (a .1 .1 .1 .1 .1 .0)))
+      → step (boxOf (a .0) (lentAs (now (a .1 .0)) (now (a .1 .1 .0)) (now (a .1 .1 .1 .0)))) (Ingress (now (a .1 .1 .1 .1 .0)) (now (a .1 .1 .1 .1 .1 .0)))
       ≡ record {
         said = Answered (r .code) (r .value);
-        world = record { host = r .host; lent = lentAs (now (s .1 .0)) (now (a .1 .1 .0)) (now (a .1 .1 .1 .0)) };
+        world = boxOf (r .host) (lentAs (now (s .1 .0)) (now (a .1 .1 .0)) (now (a .1 .1 .1 .0)));
         memory = [];
       }
   unfolding step
@@ -57,10 +57,10 @@ module _ (κs : Lfts 5) (a : Dens κs writes.stage.ingress.Kinds.ps) where
 
 module _ (κs : Lfts 4) (a : Dens κs writes.write.write.Kinds.ps) where
   pub write-steps : (r : resT writes.write.write.Kinds.r κs .Denot) (s : AtExit (endedOf 4 writes.write.write.Kinds.ps writes.write.write.Kinds.r) κs) → writes.write.write.Reads.Learnt κs a r s
-      → step (record { host = a .0; lent = lentAs (now (a .1 .1 .0)) (now (a .1 .1 .1 .0)) (now (a .1 .1 .1 .1 .0)) }) (Write (now (a .1 .0)) (a .1 .1 .1 .1 .1 .0))
+      → step (boxOf (a .0) (lentAs (now (a .1 .1 .0)) (now (a .1 .1 .1 .0)) (now (a .1 .1 .1 .1 .0)))) (Write (now (a .1 .0)) (a .1 .1 .1 .1 .1 .0))
       ≡ record {
         said = Answered (r .code) (r .value);
-        world = record { host = r .host; lent = lentAs (now (s .1 .1 .0)) (now (a .1 .1 .1 .0)) (now (a .1 .1 .1 .1 .0)) };
+        world = boxOf (r .host) (lentAs (now (s .1 .1 .0)) (now (a .1 .1 .1 .0)) (now (a .1 .1 .1 .1 .0)));
         memory = now (a .1 .0);
       }
   unfolding step
@@ -70,10 +70,10 @@ module _ (κs : Lfts 4) (a : Dens κs writes.write.write.Kinds.ps) where
 
 module _ (κs : Lfts 4) (a : Dens κs reads.read.read.Kinds.ps) where
   pub read-steps : (r : resT reads.read.read.Kinds.r κs .Denot) (s : AtExit (endedOf 4 reads.read.read.Kinds.ps reads.read.read.Kinds.r) κs) → reads.read.read.Reads.Learnt κs a r s
-      → step (record { host = a .0; lent = lentAs (now (a .1 .1 .0)) (now (a .1 .1 .1 .0)) (now (a .1 .1 .1 .1 .0)) }) (Read (now (a .1 .0)) (a .1 .1 .1 .1 .1 .0))
+      → step (boxOf (a .0) (lentAs (now (a .1 .1 .0)) (now (a .1 .1 .1 .0)) (now (a .1 .1 .1 .1 .0)))) (Read (now (a .1 .0)) (a .1 .1 .1 .1 .1 .0))
       ≡ record {
         said = Answered (r .code) (r .value);
-        world = record { host = r .host; lent = lentAs (now (a .1 .1 .0)) (now (a .1 .1 .1 .0)) (now (a .1 .1 .1 .1 .0)) };
+        world = boxOf (r .host) (lentAs (now (a .1 .1 .0)) (now (a .1 .1 .1 .0)) (now (a .1 .1 .1 .1 .0)));
         memory = now (s .1 .0);
       }
   unfolding step
@@ -83,10 +83,10 @@ module _ (κs : Lfts 4) (a : Dens κs reads.read.read.Kinds.ps) where
 
 module _ (κs : Lfts 4) (a : Dens κs host.Host.open.Kinds.ps) where
   pub open-steps : (r : resT host.Host.open.Kinds.r κs .Denot) (s : AtExit (endedOf 4 host.Host.open.Kinds.ps host.Host.open.Kinds.r) κs) → host.Host.open.Reads.Learnt κs a r s
-      → step (record { host = a .0; lent = lentAs (now (a .1 .1 .0)) (now (a .1 .1 .1 .0)) (now (a .1 .1 .1 .1 .0)) }) (Open (now (a .1 .0)) (a .1 .1 .1 .1 .1 .0))
+      → step (boxOf (a .0) (lentAs (now (a .1 .1 .0)) (now (a .1 .1 .1 .0)) (now (a .1 .1 .1 .1 .0)))) (Open (now (a .1 .0)) (a .1 .1 .1 .1 .1 .0))
       ≡ record {
         said = Answered (r .code) (r .value);
-        world = record { host = r .host; lent = lentAs (now (a .1 .1 .0)) (now (a .1 .1 .1 .0)) (now (a .1 .1 .1 .1 .0)) };
+        world = boxOf (r .host) (lentAs (now (a .1 .1 .0)) (now (a .1 .1 .1 .0)) (now (a .1 .1 .1 .1 .0)));
         memory = now (a .1 .0);
       }
   unfolding step
@@ -96,10 +96,10 @@ module _ (κs : Lfts 4) (a : Dens κs host.Host.open.Kinds.ps) where
 
 module _ (κs : Lfts 4) (a : Dens κs reads.next.next.Kinds.ps) where
   pub next-steps : (r : resT reads.next.next.Kinds.r κs .Denot) (s : AtExit (endedOf 4 reads.next.next.Kinds.ps reads.next.next.Kinds.r) κs) → reads.next.next.Reads.Learnt κs a r s
-      → step (record { host = a .0; lent = lentAs (now (a .1 .1 .0)) (now (a .1 .1 .1 .0)) (now (a .1 .1 .1 .1 .0)) }) (Next (now (a .1 .0)) (a .1 .1 .1 .1 .1 .0))
+      → step (boxOf (a .0) (lentAs (now (a .1 .1 .0)) (now (a .1 .1 .1 .0)) (now (a .1 .1 .1 .1 .0)))) (Next (now (a .1 .0)) (a .1 .1 .1 .1 .1 .0))
       ≡ record {
         said = Answered (r .code) (r .value);
-        world = record { host = r .host; lent = lentAs (now (a .1 .1 .0)) (now (a .1 .1 .1 .0)) (now (a .1 .1 .1 .1 .0)) };
+        world = boxOf (r .host) (lentAs (now (a .1 .1 .0)) (now (a .1 .1 .1 .0)) (now (a .1 .1 .1 .1 .0)));
         memory = now (s .1 .0);
       }
   unfolding step
@@ -109,10 +109,10 @@ module _ (κs : Lfts 4) (a : Dens κs reads.next.next.Kinds.ps) where
 
 module _ (κs : Lfts 4) (a : Dens κs host.Host.close.Kinds.ps) where
   pub close-steps : (r : resT host.Host.close.Kinds.r κs .Denot) (s : AtExit (endedOf 4 host.Host.close.Kinds.ps host.Host.close.Kinds.r) κs) → host.Host.close.Reads.Learnt κs a r s
-      → step (record { host = a .0; lent = lentAs (now (a .1 .1 .0)) (now (a .1 .1 .1 .0)) (now (a .1 .1 .1 .1 .0)) }) (Close (now (a .1 .0)) (a .1 .1 .1 .1 .1 .0))
+      → step (boxOf (a .0) (lentAs (now (a .1 .1 .0)) (now (a .1 .1 .1 .0)) (now (a .1 .1 .1 .1 .0)))) (Close (now (a .1 .0)) (a .1 .1 .1 .1 .1 .0))
       ≡ record {
         said = Answered (r .code) (r .value);
-        world = record { host = r .host; lent = lentAs (now (a .1 .1 .0)) (now (a .1 .1 .1 .0)) (now (a .1 .1 .1 .1 .0)) };
+        world = boxOf (r .host) (lentAs (now (a .1 .1 .0)) (now (a .1 .1 .1 .0)) (now (a .1 .1 .1 .1 .0)));
         memory = now (a .1 .0);
       }
   unfolding step
@@ -122,10 +122,10 @@ module _ (κs : Lfts 4) (a : Dens κs host.Host.close.Kinds.ps) where
 
 module _ (κs : Lfts 3) (a : Dens κs host.Host.module_return.Kinds.ps) where
   pub return-steps : (r : resT host.Host.module_return.Kinds.r κs .Denot) (s : AtExit (endedOf 3 host.Host.module_return.Kinds.ps host.Host.module_return.Kinds.r) κs) → host.Host.module_return.Reads.Learnt κs a r s
-      → step (record { host = a .0; lent = lentAs (now (a .1 .0)) (now (a .1 .1 .0)) (now (a .1 .1 .1 .0)) }) (Return (a .1 .1 .1 .1 .0))
+      → step (boxOf (a .0) (lentAs (now (a .1 .0)) (now (a .1 .1 .0)) (now (a .1 .1 .1 .0)))) (Return (a .1 .1 .1 .1 .0))
       ≡ record {
         said = Ended (r .fate);
-        world = record { host = r .host; lent = lentAs (now (s .1 .0)) (now (s .1 .1 .0)) (now (a .1 .1 .1 .0)) };
+        world = boxOf (r .host) (lentAs (now (s .1 .0)) (now (s .1 .1 .0)) (now (a .1 .1 .1 .0)));
         memory = [];
       }
   unfolding step
@@ -135,6 +135,6 @@ module _ (κs : Lfts 3) (a : Dens κs host.Host.module_return.Kinds.ps) where
 
 module _ (κs : Lfts 2) (a : Dens κs mounts.look.look_up.Kinds.ps) where
   pub look-up-steps : (r : resT mounts.look.look_up.Kinds.r κs .Denot) (s : AtExit (endedOf 2 mounts.look.look_up.Kinds.ps mounts.look.look_up.Kinds.r) κs) → mounts.look.look_up.Reads.Learnt κs a r s
-      → step (record { host = a .0; lent = lentAs (now (a .1 .0)) (now (a .1 .1 .0)) (now (a .1 .1 .1 .0)) }) (LookUp (a .1 .1 .1 .1 .0 .0)) .said ≡ Part (now r)
+      → step (boxOf (a .0) (lentAs (now (a .1 .0)) (now (a .1 .1 .0)) (now (a .1 .1 .1 .0)))) (LookUp (a .1 .1 .1 .1 .0 .0)) .said ≡ Part (now r)
   unfolding step
   look-up-steps r s p = ap Part (sym p)

@@ -164,6 +164,7 @@ pub record WeaveOnce : Type 0 where
   pub args-out-fine : ResultOnce weave.args.out_fine.Kinds.ps weave.args.out_fine.Kinds.r weave.args.out_fine.Reads.Learnt
   pub args-payload-fine : ResultOnce weave.args.payload_fine.Kinds.ps weave.args.payload_fine.Kinds.r weave.args.payload_fine.Reads.Learnt
   pub args-filter-bytes : ResultOnce weave.args.filter_bytes.Kinds.ps weave.args.filter_bytes.Kinds.r weave.args.filter_bytes.Reads.Learnt
+  pub charges-write-charge : ResultOnce weave.charges.write_charge.Kinds.ps weave.charges.write_charge.Kinds.r weave.charges.write_charge.Reads.Learnt
   pub weave-lent-fine : ResultOnce weave.Weave.lent_fine.Kinds.ps weave.Weave.lent_fine.Kinds.r weave.Weave.lent_fine.Reads.Learnt
   pub weave-running-check : ResultOnce weave.Weave.running_check.Kinds.ps weave.Weave.running_check.Kinds.r weave.Weave.running_check.Reads.Learnt
   pub weave-handle-fine : ResultOnce weave.Weave.handle_fine.Kinds.ps weave.Weave.handle_fine.Kinds.r weave.Weave.handle_fine.Reads.Learnt

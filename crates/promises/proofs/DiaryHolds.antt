@@ -12,6 +12,7 @@ use lib.Seq.{length-take-le}
 use Rattle.le.specs.Splice.{part, splice, zeros}
 use Rattle.le.specs.Le.{Bytes}
 use Rattle.le.proofs.SpliceLaws.{length-splice}
+use Rattle.manifest.specs.Saying.{chargeOf}
 use Rattle.card.specs.Pick.{All}
 use Rattle.card.specs.Records.{upTo, records}
 use Rattle.card.specs.Walk.{chainTo}
@@ -26,7 +27,7 @@ use Rattle.takes.specs.Begun.{traceOf, begun}
 use Rattle.host.specs.Hosts.{Lent, lentAs, withWeave}
 use Rattle.host.specs.Ending.{committed}
 use Rattle.mounts.specs.Mount.{mounted}
-use Rattle.promises.specs.Box.{World, recordsOn, Op, step, memoryOf, LendsBytes, mountedAs, run}
+use Rattle.promises.specs.Box.{World, recordsOn, Op, step, memoryOf, LendsBytes, mountedUnder, mountedAs, run}
 use Rattle.promises.specs.Diary.{Diary, entered, diary, firstPage, Agrees}
 use Rattle.promises.proofs.AcceptedLaws.{lawful}
 use Rattle.promises.proofs.MountHolds.{mount-fine}
@@ -99,7 +100,7 @@ module _ (w : World) (o : Op) (bytes : Bytes (memoryOf o)) (d : Diary) (a : Agre
 
   -- nothing is staged, in a weave with such a trace
   emptied-agrees : (v : Weave) (staging : List ℕ) → v .staged ≡ 0 → v .count ≡ 0 → v .units ≡ 0 → length (v .trace) ≡ 32
-      → Agrees (record { host = withWeave (w .host) v; lent = lentAs staging (w .lent .card) (w .lent .text) }) (record { kept = d .kept; staged = []; units = 0 })
+      → Agrees (record { host = withWeave (w .host) v; lent = lentAs staging (w .lent .card) (w .lent .text); charge = w .charge }) (record { kept = d .kept; staged = []; units = 0 })
   unfolding withWeave
   emptied-agrees v staging s c u t =
       let n = none-carried staging (w .host .next .0) in
@@ -175,9 +176,9 @@ lends-memory os b = all-map LendsBytes (λ (o : Op). Bytes (memoryOf o)) (λ o h
 
 -- ---- mount
 
-module _ (l : Lent) (used′ : ℕ) where
+module _ (charge : ℕ → ℕ) (l : Lent) (used′ : ℕ) where
   -- a mount that is not refused agrees
-  pub mount-agrees : mounted l used′ .code ≡ Fine → Agrees (mountedAs l used′) (firstPage l used′)
+  pub mount-agrees : mounted l used′ .code ≡ Fine → Agrees (mountedUnder charge l used′) (firstPage l used′)
   unfolding freshWeave
   mount-agrees e =
       let f = mount-fine l used′ e in
@@ -194,7 +195,12 @@ module _ (l : Lent) (used′ : ℕ) where
         units = rw (h .weave);
       }
 
-  -- THE PROMISE over the life of a box: mounted, and asked whatever may be asked, it agrees with the diary
-  pub life-agrees : (os : List Op) → All (λ (o : Op). Bytes (memoryOf o)) os → mounted l used′ .code ≡ Fine
-      → Agrees (run (mountedAs l used′) os) (diary (mountedAs l used′) (firstPage l used′) os)
-  life-agrees os b e = agrees-run os (mountedAs l used′) (firstPage l used′) b (mount-agrees e)
+  -- THE PROMISE over the life of a box: mounted, and asked whatever may be asked, it agrees with the diary, by any charge rule
+  pub ruled-agrees : (os : List Op) → All (λ (o : Op). Bytes (memoryOf o)) os → mounted l used′ .code ≡ Fine
+      → Agrees (run (mountedUnder charge l used′) os) (diary (mountedUnder charge l used′) (firstPage l used′) os)
+  ruled-agrees os b e = agrees-run os (mountedUnder charge l used′) (firstPage l used′) b (mount-agrees e)
+
+-- .. so by the one that the manifest names
+pub life-agrees : (l : Lent) (used : ℕ) (os : List Op) → All (λ (o : Op). Bytes (memoryOf o)) os → mounted l used .code ≡ Fine
+    → Agrees (run (mountedAs l used) os) (diary (mountedAs l used) (firstPage l used) os)
+life-agrees l used = ruled-agrees (chargeOf (l .text)) l used

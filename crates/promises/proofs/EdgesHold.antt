@@ -23,6 +23,7 @@ use Rattle.value.specs.Cells.{cellAt, cellBytes}
 use Rattle.value.specs.Scalars.{canonical}
 use Rattle.value.specs.Values.{decoded, textFault, valueFault}
 use Rattle.value.specs.Forms.{formOf, payload}
+use Rattle.manifest.specs.Charge.{chargeBy}
 use Rattle.card.specs.Listing.{pageOf}
 use Rattle.card.specs.declared.Page.the-variants.{End, Short, Bytes}
 use Rattle.weave.specs.declared.Code.{Code}
@@ -36,7 +37,7 @@ use Rattle.host.specs.Ending.{returnCheck, whyNot, fateOf, returnAnswer}
 use Rattle.promises.specs.Box.{World, Return, Ended, step}
 use Rattle.promises.specs.Outcome.{Returns}
 use Rattle.promises.specs.Turn.{listLeft}
-use Rattle.promises.specs.Edges.{Case, total, stored, flags, span, float, topic, filter, kept, text, window, twoLeft, returned, Holds, edges}
+use Rattle.promises.specs.Edges.{Case, total, stored, flags, span, float, topic, filter, kept, text, window, twoLeft, returned, costs, Holds, edges}
 use Rattle.promises.proofs.NextHolds.{pageSays, next-says, two-left, window-none, limit-none}
 
 -- ---- answers that are found the same are equal
@@ -134,6 +135,7 @@ test (kept s b) = Bool·beq (cardTopic s) b
 test (text s b) = Bool·beq (utf8 s) b
 test (window from to limit z) = (leb to from || eqb limit 0) && sameNumber (pos 0) z
 test (twoLeft k z) = sameNumber (twoSays k) z
+test (costs c t n) = eqb (chargeBy c t) n
 test (returned code c) = not (isFine c) && sameCode (reasonOf code) c
 
 met : (c : Case) → T (test c) → Holds c
@@ -151,6 +153,7 @@ met (window from to limit z) p =
     subst (λ (x : ℤ). Holds (window from to limit x)) (same-number (pos 0) z (right (leb to from || eqb limit 0) (sameNumber (pos 0) z) p))
     (none-says from to limit (left (leb to from || eqb limit 0) (sameNumber (pos 0) z) p))
 met (twoLeft k z) p = subst (λ (x : ℤ). Holds (twoLeft k x)) (same-number (twoSays k) z p) (two-says k)
+met (costs c t n) p = eqb→eq (chargeBy c t) n p
 met (returned code c) p = λ w f u. discards w code c f u (same-code (reasonOf code) c (right (not (isFine c)) (sameCode (reasonOf code) c) p)) (untrue (isFine c) (left (not (isFine c)) (sameCode (reasonOf code) c) p))
 
 every : List Case → Bool
@@ -165,5 +168,5 @@ from (c ∷ cs) t (suc k) h d = from cs (right (test c) (every cs) t) k (le-of-s
 
 -- the one claim: each case of the table holds
 pub edges-hold : (k : ℕ) → k < length edges → (d : Case) → Holds (getD edges k d)
-unfolding edges every test after utf8From utf8 goodText noControl goodFlags inside canonical leAt leBytes part cellAt cellBytes decoded textFault valueFault formOf payload sameNumber twoSays sameCode place reasonOf
+unfolding edges every test after utf8From utf8 goodText noControl goodFlags inside canonical leAt leBytes part cellAt cellBytes decoded textFault valueFault formOf payload sameNumber twoSays sameCode place reasonOf chargeBy
 edges-hold k h d = from edges tt k h d

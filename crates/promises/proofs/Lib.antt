@@ -26,6 +26,7 @@ pub mod TurnHolds
 pub mod PagesHold
 pub mod ListHolds
 pub mod NamingHolds
+pub mod ChargingHolds
 pub mod NextHolds
 pub mod EdgesHold
 pub mod RunLaws

@@ -147,4 +147,4 @@ module _ (l : Lent) (used′ : ℕ) where
       → isFine (lentCheck (run (mountedAs l used′) os .lent) (run (mountedAs l used′) os .host)) ≡ true
   life-sane os b e =
       sane-check (run (mountedAs l used′) os) (diary (mountedAs l used′) (firstPage l used′) os) (life-agrees l used′ os b e)
-      (sane-run os (mountedAs l used′) (firstPage l used′) b (mount-agrees l used′ e) (mount-sane e))
+      (sane-run os (mountedAs l used′) (firstPage l used′) b (mount-agrees _ l used′ e) (mount-sane e))

@@ -207,7 +207,7 @@ pub data Move (w : World) (o : Op) : Type 0 where
 abbrev pub after : (w : World) (o : Op) → Move w o → World
 after w o Rests = w
 after w o (Begins args i b) =
-    record { host = withWeave (w .host) (begun args); lent = lentAs (zeros (length (w .lent .staging))) (w .lent .card) (w .lent .text) }
+    record { host = withWeave (w .host) (begun args); lent = lentAs (zeros (length (w .lent .staging))) (w .lent .card) (w .lent .text); charge = w .charge }
 after w o (GoesOn r c) =
     record {
       host = record {
@@ -218,14 +218,16 @@ after w o (GoesOn r c) =
         weave = weaveAfter w o c;
       };
       lent = lentAs (stagingAfter w o (c .staging)) (w .lent .card) (w .lent .text);
+      charge = w .charge;
     }
 after w o (Commits i s code c) =
     record {
       host = committed (w .host) (w .host .weave .count) (w .host .weave .staged);
       lent = lentAs (zeros (length (w .lent .staging))) (splice (w .lent .card) (w .host .used) (take (w .host .weave .staged) (w .lent .staging))) (w .lent .text);
+      charge = w .charge;
     }
 after w o (Discards i) =
-    record { host = withWeave (w .host) freshWeave; lent = lentAs (zeros (length (w .lent .staging))) (w .lent .card) (w .lent .text) }
+    record { host = withWeave (w .host) freshWeave; lent = lentAs (zeros (length (w .lent .staging))) (w .lent .card) (w .lent .text); charge = w .charge }
 
 abbrev pub entryBy : (w : World) (o : Op) → Move w o → Diary → Diary
 entryBy w o Rests d = d

@@ -204,10 +204,10 @@ module _ (w : World) where
     write-moved : Moved w (Write m at)
     unfolding step writeAnswer writeStaging writtenRecord settle written panicked withWeave holding paid spoilt
     write-moved =
-        settled w (Write m at) (writeCheck l h m at) 0 _ (writeStaging l h m at) m refl
+        settled w (Write m at) (writeCheck (w .charge) l h m at) 0 _ (writeStaging (w .charge) l h m at) m refl
         (λ e. (rw e, refl)) (write-code w m at) (gate-idle w m (writeAsks w m at)) (λ a f. go a f (isPanic m at) refl)
       where
-        go : isRefused (step w (Write m at) .said) ≡ false → isFine (writeCheck l h m at) ≡ true → (p : Bool) → isPanic m at ≡ p → Accepted w (Write m at)
+        go : isRefused (step w (Write m at) .said) ≡ false → isFine (writeCheck (w .charge) l h m at) ≡ true → (p : Bool) → isPanic m at ≡ p → Accepted w (Write m at)
         go a f true p =
             record {
               move = GoesOn (write-exactly w m at .0 a .gated .running) (record { cost = Free; staging = Kept; cursors = Same; mark = Panics; turn = Stays });
@@ -220,9 +220,9 @@ module _ (w : World) where
         go a f false p =
             let may = write-exactly w m at .0 a in
             record {
-              move = GoesOn (may .gated .running) (called w _ (Paid _ (may .budget p)) (Staged (writtenRecord w m at) _ (λ b t. write-staged l h m at t b may p)) Same);
+              move = GoesOn (may .gated .running) (called w _ (Paid _ (may .budget p)) (Staged (writtenRecord w m at) _ (λ b t. write-staged (w .charge) l h m at t b may p)) Same);
               world = rw (f, p);
-              entry = λ b t d. rw (p, write-staged l h m at t b may p .long);
+              entry = λ b t d. rw (p, write-staged (w .charge) l h m at t b may p .long);
               heard-as = λ s. rw p;
               given = λ k. refl;
               stays = refl;

@@ -177,7 +177,7 @@ module _ (staging text front : List ℕ) (h : Header) (trace topic payload : Lis
   pub kept-shown : step (mountedAs l (length card′)) (LookUp (h .id .0)) .said ≡ Part r
   kept-shown =
       let i = length (records front 1) in
-      let here = kept-found (mountedAs l (length card′)) (firstPage l (length card′)) (mount-agrees l (length card′) kept-mounts) (life-sane l (length card′) [] tt kept-mounts) i
+      let here = kept-found (mountedAs l (length card′)) (firstPage l (length card′)) (mount-agrees _ l (length card′) kept-mounts) (life-sane l (length card′) [] tt kept-mounts) i
       (rw on-card (omega (arith, length-append (records front 1) (r ∷ [])))) in
       let number : h .id .0 ≡ i + 1 = omega (arith, may .number) in
       ap (λ (k : ℕ). step (mountedAs l (length card′)) (LookUp k) .said) number ∙ here ∙ ap Part (rw on-card (getD-append-seam (records front 1) r [] []))

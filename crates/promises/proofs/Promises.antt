@@ -1,18 +1,20 @@
 -- THE PROMISES, each in one place and in the user's order. What they speak of is in specs/: Box, Checks, Mounting, Refusal, Accepted, Outcome, Diary, Standing,
--- ReadBack, Turn, Naming, TwoWeaves. That they are about the code is ContractsHold.antt; that they do not hold because nothing happens is the last part.
+-- ReadBack, Turn, Naming, Charging, TwoWeaves. That they are about the code is ContractsHold.antt; that they do not hold because nothing happens is the last part.
 -- Assumes nothing.
 use mathlib.Core.Path.{_≡_, ap}
 use mathlib.Core.Bool.{Bool, true, false}
 use mathlib.Core.List.{List, [], _∷_, _++_, map, List·Memᴰ}
 use mathlib.Core.Logic.{_↔_}
-use Prim.Native.Nat.{ℕ, _+_, _≤_, _<_}
+use Prim.Native.Nat.{ℕ, _+_, _*_, _≤_, _<_}
 use lib.IntN.{ℤ, pos, negsuc}
 use lib.ListN.{length, getD}
 use Rattle.le.specs.Splice.{splice, zeros}
 use Rattle.le.specs.Le.{Bytes}
 use Rattle.text.specs.Topic.{goodTopic, cardTopic, goodFilter}
+use Rattle.manifest.specs.declared.charge.Charge.the-variants.{First, Second}
+use Rattle.manifest.specs.Charge.{chargeBy}
 use Rattle.manifest.specs.Rights.{Right}
-use Rattle.manifest.specs.Saying.{isGood, manifestOf, rightsSaid, mayRead}
+use Rattle.manifest.specs.Saying.{isGood, manifestOf, chargeOf, rightsSaid, mayRead}
 use Rattle.record.specs.declared.Header.{Header}
 use Rattle.record.specs.Record.{topicOf, recordBytes}
 use Rattle.record.specs.Written.{Written}
@@ -35,7 +37,7 @@ use Rattle.host.specs.declared.Host.{Host}
 use Rattle.mounts.specs.Mount.{mounted}
 use Rattle.reads.specs.Paging.{nextPart, nextAnswer, nextCheck}
 use Rattle.reads.specs.Reading.{readTopic, readList, readAnswer, readCheck}
-use Rattle.promises.specs.Box.{World, recordsOn, cardRecords, stagedRecords, LendsBytes, Op, Begin, Ingress, Write, Read, Open, Next, Close, Return, LookUp, Answered, Ended, Part, step, isRefused, codeOf, saidNumber, memoryOf, mountedAs, run}
+use Rattle.promises.specs.Box.{World, recordsOn, cardRecords, stagedRecords, LendsBytes, Op, Begin, Ingress, Write, Read, Open, Next, Close, Return, LookUp, Answered, Ended, Part, step, isRefused, codeOf, saidNumber, memoryOf, mountedUnder, mountedAs, run}
 use Rattle.promises.specs.Refusal.{Unchanged, OnlyThere}
 use Rattle.promises.specs.Checks.{Passed, failing, checksOf, answers, tooLate}
 use Rattle.promises.specs.Mounting.{mountChecks, StateOf, noLengths}
@@ -46,6 +48,7 @@ use Rattle.promises.specs.Standing.{atMount, standing, Stands}
 use Rattle.promises.specs.Turn.{InTurn, handedOver, listLeft, FirstPart, Nexts, Allowed, ListedOf, AskedBy}
 use Rattle.promises.specs.ReadBack.{HasPage, ReadOf}
 use Rattle.promises.specs.Naming.{NoDel, Clean, namedIn, GoodIn01, MayFollow}
+use Rattle.promises.specs.Charging.{edition, Made, saidBy}
 use Rattle.promises.specs.TwoWeaves.{saidOver, twoModules, theCalls, theAnswers}
 use Rattle.promises.proofs.AcceptedLaws.{lawful, fine-lawful, settle-ok}
 use Rattle.promises.proofs.OutcomeHolds.{committed-exactly}
@@ -59,16 +62,17 @@ use Rattle.promises.proofs.RefusalHolds.{next-there, read-there}
 use Rattle.promises.proofs.WeaveHolds.{begin-sets, weave-stays, life-idle, life-timed}
 use Rattle.promises.proofs.CountHolds.{turn-counted}
 use Rattle.promises.proofs.CardHolds.{only-commit, commit-appends, discard-restores}
-use Rattle.promises.proofs.DiaryHolds.{lends-memory, life-agrees}
+use Rattle.promises.proofs.DiaryHolds.{lends-memory, ruled-agrees, life-agrees}
 use Rattle.promises.proofs.LifeHolds.{life-sane}
 use Rattle.promises.proofs.AskedHolds.{asked-by, panic-left, codes-are, refusal-number}
 use Rattle.promises.proofs.ReadBackHolds.{write-reads-back, ingress-reads-back, kept-found, staged-found, page-stands, read-page-stands}
 use Rattle.promises.proofs.ReadHolds.{read-lists, read-zero}
 use Rattle.promises.proofs.TidyHolds.{life-tidy}
-use Rattle.promises.proofs.StandingHolds.{life-stands}
+use Rattle.promises.proofs.StandingHolds.{ruled-stands}
 use Rattle.promises.proofs.PagesHold.{open-lists, first-part, end-exactly, drained}
 use Rattle.promises.proofs.ListHolds.{all-allowed, every-allowed, within-limit, all-listed}
 use Rattle.promises.proofs.NamingHolds.{kept-exactly, called-exactly, names-no-del, grants-no-del, lists-no-del, reads-no-del, kept-mounts, kept-shown, kept-named}
+use Rattle.promises.proofs.ChargingHolds.{life-rule, made-exactly, says-so, by-edition}
 use Rattle.promises.proofs.CommitRuns.{oneModule, commits-one}
 use Rattle.promises.proofs.TwoRuns.{all-said}
 
@@ -141,7 +145,7 @@ pub ingress-is-accepted-exactly-when : (w : World) (topic payload : List ℕ)
     → (isRefused (step w (Ingress topic payload) .said) ≡ false) ↔ IngressMay (w .lent) (w .host) topic payload
 ingress-is-accepted-exactly-when = ingress-exactly
 
-pub write-is-accepted-exactly-when : (w : World) (m : List ℕ) (at : ℕ) → (isRefused (step w (Write m at) .said) ≡ false) ↔ WriteMay (w .lent) (w .host) m at
+pub write-is-accepted-exactly-when : (w : World) (m : List ℕ) (at : ℕ) → (isRefused (step w (Write m at) .said) ≡ false) ↔ WriteMay (w .charge) (w .lent) (w .host) m at
 write-is-accepted-exactly-when = write-exactly
 
 pub read-is-accepted-exactly-when : (w : World) (m : List ℕ) (at : ℕ) → (isRefused (step w (Read m at) .said) ≡ false) ↔ ReadMay (w .lent) (w .host) m at
@@ -184,7 +188,7 @@ pub running-exactly-when : (w : World) (code : ℤ) → (step w (Return code) .s
 running-exactly-when = running-exactly
 
 pub the-next-module-has-its-turn : (w : World) (code : ℤ) → step w (Return code) .said ≡ Ended Running
-    → step w (Return code) .world ≡ record { host = withWeave (w .host) (nextTurn (w .host .weave)); lent = w .lent }
+    → step w (Return code) .world ≡ record { host = withWeave (w .host) (nextTurn (w .host .weave)); lent = w .lent; charge = w .charge }
 the-next-module-has-its-turn = turn-passes
 
 -- "refused with document 01's number", "discard with its reason", "The outcome gives events and bytes": a return's answer in numbers
@@ -229,7 +233,7 @@ the-box-keeps-its-diary = life-agrees
 -- opened and which are open. A handle is open exactly when an open of this turn answered it and no close took it; an open finds room exactly when fewer than 4
 -- are open and fewer than 65,535 have been opened. (After any mount, and with anything lent.)
 pub the-box-stands-as-heard : (l : Lent) (used : ℕ) (os : List Op) → Stands (run (mountedAs l used) os) (standing (mountedAs l used) atMount os)
-the-box-stands-as-heard = life-stands
+the-box-stands-as-heard l = ruled-stands (chargeOf (l .text)) l
 
 -- and check 1 passes after any calls: none of them leaves a box that the next refuses with -5 for its state
 pub check-1-passes-over-a-life : (l : Lent) (used : ℕ) (os : List Op) → All (λ (o : Op). Bytes (memoryOf o)) os → mounted l used .code ≡ Fine
@@ -384,6 +388,36 @@ module _ (staging text front : List ℕ) (h : Header) (trace topic payload : Lis
   pub look-up-shows-a-kept-topic : (step (mountedAs l (length (front ++ old))) (LookUp (h .id .0)) .said ≡ Part old) × (topicOf old ≡ topic)
   look-up-shows-a-kept-topic =
       (kept-shown staging text front h trace topic payload least most good may, kept-named staging text front h trace topic payload least most good may)
+
+-- ==== 02, A11: the charge rule
+
+-- "what the budget does is shown once for any charge rule": a box is any `World`, with any function from a record's length to units as its rule, in all that is said of every
+-- box above (what is refused with -6, that units then stay, the mark). Over a life, by any rule: units are the sum of the charges of the accepted calls, and the mark is as heard.
+pub by-any-rule-the-box-keeps-its-diary : (charge : ℕ → ℕ) (l : Lent) (used : ℕ) (os : List Op) → All (λ (o : Op). Bytes (memoryOf o)) os → mounted l used .code ≡ Fine
+    → Agrees (run (mountedUnder charge l used) os) (diary (mountedUnder charge l used) (firstPage l used) os)
+by-any-rule-the-box-keeps-its-diary = ruled-agrees
+
+pub by-any-rule-the-box-stands-as-heard : (charge : ℕ → ℕ) (l : Lent) (used : ℕ) (os : List Op)
+    → Stands (run (mountedUnder charge l used) os) (standing (mountedUnder charge l used) atMount os)
+by-any-rule-the-box-stands-as-heard = ruled-stands
+
+-- and the box that is mounted has the edition that its manifest's line names, after any calls
+pub the-rule-is-the-one-that-the-manifest-names : (l : Lent) (used : ℕ) (os : List Op) (m : Made (l .text))
+    → run (mountedAs l used) os .charge ≡ chargeBy (edition (m .choice))
+the-rule-is-the-one-that-the-manifest-names = life-rule
+
+-- "A manifest line `charge` after line one .. names 1 (also when absent) or 2", "A bad line is a bad manifest": a manifest is good exactly when it is line one, then this line or
+-- none, then grants, and nothing else; and then it says just that
+pub a-manifest-is-good-exactly-when : (text : List ℕ) → (isGood (manifestOf text) ≡ true) ↔ Made text
+a-manifest-is-good-exactly-when = made-exactly
+
+pub a-manifest-says-what-it-is-made-of : (text : List ℕ) (m : Made text) → manifestOf text ≡ saidBy text m
+a-manifest-says-what-it-is-made-of = says-so
+
+-- 01: "write 1 + total_len / 8", a record's length being a multiple of 8; 02: "4 units plus total_len / 64 rounded up"
+pub a-write-costs-by-each-edition : (total q : ℕ)
+    → (total ≡ 8 * q → chargeBy First total ≡ 1 + q) × (total ≤ 64 * q → 64 * q < total + 64 → chargeBy Second total ≡ 4 + q)
+a-write-costs-by-each-edition = by-edition
 
 -- ==== Nothing of this holds because nothing happens
 

@@ -54,8 +54,8 @@ pub write-reads-back : (w : World) (m : List ℕ) (at : ℕ) → Bytes m → len
     (writtenRecord w m at)
 unfolding step writeAnswer writeStaging writtenRecord
 write-reads-back w m at b l t e p =
-    let c = settle-ok (w .host) (writeCheck (w .lent) (w .host) m at) _ _ e in
-    (rw (c, p), write-back (w .lent) (w .host) m at l b (write-exactly w m at .0 e) p t)
+    let c = settle-ok (w .host) (writeCheck (w .charge) (w .lent) (w .host) m at) _ _ e in
+    (rw (c, p), write-back (w .charge) (w .lent) (w .host) m at l b (write-exactly w m at .0 e) p t)
 
 -- an accepted ingress likewise
 pub ingress-reads-back : (w : World) (topic payload : List ℕ) → length (w .host .weave .trace) ≡ 32 → w .host .weave .time .0 < 256 ^ 8

@@ -189,7 +189,7 @@ module _ (w : World) (code : ℤ) where
   running-exactly = (λ q. goes-on (ap fateIn q), λ u. ap Ended (running (u .0) (u .1)))
 
   -- .. and then the next module has its turn, and nothing else has changed but that the cursors are closed
-  pub turn-passes : step w (Return code) .said ≡ Ended Running → step w (Return code) .world ≡ record { host = withWeave (w .host) (nextTurn (w .host .weave)); lent = w .lent }
+  pub turn-passes : step w (Return code) .said ≡ Ended Running → step w (Return code) .world ≡ record { host = withWeave (w .host) (nextTurn (w .host .weave)); lent = w .lent; charge = w .charge }
   unfolding step returnAnswer returnCard returnStaging finished turned
   turn-passes e =
       let q = ap fateIn e in

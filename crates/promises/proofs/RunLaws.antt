@@ -18,7 +18,7 @@ use Rattle.weave.specs.Codes.{isFine, need}
 use Rattle.host.specs.Hosts.{Lent, lentAs, lengthsOf, lentCheck}
 use Rattle.host.specs.Hosts.{freshHost}
 use Rattle.mounts.specs.Mount.{sizesFine, mountCheck, mountedBy, mounted}
-use Rattle.promises.specs.Box.{World, Op, step, isRefused, memoryOf, mountedAs, run}
+use Rattle.promises.specs.Box.{World, Op, boxOf, step, isRefused, memoryOf, mountedAs, run}
 use Rattle.promises.specs.Diary.{Diary, noted, firstPage, Agrees}
 use Rattle.promises.proofs.MountHolds.{mounts}
 use Rattle.promises.proofs.DiaryHolds.{agrees-step, mount-agrees}
@@ -60,7 +60,7 @@ one-more l fine os w d a o b e w′ q =
 -- ---- the empty card
 
 abbrev pub emptyBox : ℕ → ℕ → List ℕ → World
-emptyBox n c text = record { host = freshHost (lengthsOf (lentAs (zeros n) (zeros c) text)) 0 1; lent = lentAs (zeros n) (zeros c) text }
+emptyBox n c text = boxOf (freshHost (lengthsOf (lentAs (zeros n) (zeros c) text)) 0 1) (lentAs (zeros n) (zeros c) text)
 
 module _ (n c : ℕ) (text : List ℕ) (n-least : 65536 ≤ n) (n-most : n ≤ 1048576) (c-most : c ≤ 16777216) (good : isGood (manifestOf text) ≡ true) where
   abbrev l : Lent
@@ -80,6 +80,6 @@ module _ (n c : ℕ) (text : List ℕ) (n-least : 65536 ≤ n) (n-most : n ≤ 1
       record {
         is = here;
         bytes = tt;
-        agrees = subst (λ (w : World). Agrees w (firstPage l 0)) here (mount-agrees l 0 mount-ok);
+        agrees = subst (λ (w : World). Agrees w (firstPage l 0)) here (mount-agrees _ l 0 mount-ok);
         check-1 = subst (λ (w : World). isFine (lentCheck (w .lent) (w .host)) ≡ true) here (life-sane l 0 [] tt mount-ok);
       }

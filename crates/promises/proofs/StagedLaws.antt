@@ -99,7 +99,7 @@ module _ (l : Lent) (h : Host) (topic take′ : List ℕ) (traced : length (h .w
 not-zero : (n : ℕ) → 1 ≤ n → not (eqb n 0) ≡ true
 not-zero n h = rw (ne-eqb n 0 (λ e. omega arith))
 
-module _ (l : Lent) (h : Host) (m : List ℕ) (a : ℕ) (traced : length (h .weave .trace) ≡ 32) (bytes : Bytes m) (may : WriteMay l h m a) (calm : isPanic m a ≡ false) where
+module _ (charge : ℕ → ℕ) (l : Lent) (h : Host) (m : List ℕ) (a : ℕ) (traced : length (h .weave .trace) ≡ 32) (bytes : Bytes m) (may : WriteMay charge l h m a) (calm : isPanic m a ≡ false) where
   law : Lawful l h
   law = lawful l h (may .gated .check-1)
 

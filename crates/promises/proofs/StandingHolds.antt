@@ -19,7 +19,7 @@ use Rattle.weave.proofs.SumLaws.{leb-same}
 use Rattle.takes.specs.Begun.{begun}
 use Rattle.host.specs.Hosts.{Lent, withWeave}
 use Rattle.host.specs.Ending.{committed}
-use Rattle.promises.specs.Box.{World, Op, step, mountedAs, run}
+use Rattle.promises.specs.Box.{World, Op, step, mountedUnder, run}
 use Rattle.promises.specs.Standing.{Standing, atMount, without, heard, standing, isAmong, Stands}
 use Rattle.promises.specs.Turn.{Tidy}
 use Rattle.promises.proofs.MountHolds.{mount-fresh, mount-healthy}
@@ -226,13 +226,13 @@ follows-run (o ∷ os) w s t =
     follows-run os (step w o .world) (heard s o (step w o .said))
     (rw (moved w o .world, moved w o .heard-as s) (follows-move w o (moved w o .move) s t))
 
--- THE PROMISE: mounted, refused or not, and asked whatever may be asked, the box stands as it was heard
-pub life-stands : (l : Lent) (used : ℕ) (os : List Op) → Stands (run (mountedAs l used) os) (standing (mountedAs l used) atMount os)
+-- THE PROMISE: mounted, refused or not, and asked whatever may be asked, the box stands as it was heard, by any charge rule
+pub ruled-stands : (charge : ℕ → ℕ) (l : Lent) (used : ℕ) (os : List Op) → Stands (run (mountedUnder charge l used) os) (standing (mountedUnder charge l used) atMount os)
 unfolding freshWeave
-life-stands l used os =
-    let w = run (mountedAs l used) os in
-    let s = standing (mountedAs l used) atMount os in
-    let t = follows-run os (mountedAs l used) atMount start in
+ruled-stands charge l used os =
+    let w = run (mountedUnder charge l used) os in
+    let s = standing (mountedUnder charge l used) atMount os in
+    let t = follows-run os (mountedUnder charge l used) atMount start in
     record {
       running = t .running;
       faulted = t .faulted;
@@ -242,7 +242,7 @@ life-stands l used os =
       room = room-is (w .host .weave) (s .handles) (s .opened) (t .cursors) (t .opened);
     }
   where
-    start : Follows (mountedAs l used) atMount
+    start : Follows (mountedUnder charge l used) atMount
     start = record {
       running = rw (mount-fresh l used);
       faulted = mount-healthy l used;

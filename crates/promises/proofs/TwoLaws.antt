@@ -20,10 +20,13 @@ use Rattle.text.specs.Utf8.{utf8, utf8From, after}
 use Rattle.text.specs.Words.{panicTopic, coreTopic, logTopic}
 use Rattle.value.specs.declared.Checked.{Checked}
 use Rattle.value.specs.declared.Fault.the-variants.{Fine as NoFault}
-use Rattle.manifest.specs.Line.{modulesIn, oneTo, holderIn, grantForm, rightIn}
+use Rattle.manifest.specs.Line.{numberIn, modulesIn, chargeIn, oneTo, holderIn, grantForm, rightIn}
 use Rattle.manifest.specs.Rights.{granted, anyGives, gives}
-use Rattle.manifest.specs.Words.{modulesWord, grantWord, inWord, outWord}
-use Rattle.manifest.specs.Saying.{isGood, modulesSaid, manifestOf, goodHead, modulesOf, grantLines, grantsSaid, goodGrants, allGrants, mayRead, mayWrite}
+use Rattle.manifest.specs.Words.{modulesWord, chargeWord, grantWord, inWord, outWord}
+use Rattle.manifest.specs.declared.charge.Charge.the-variants.{First}
+use Rattle.manifest.specs.Charge.{chargeNamed, chargeBy}
+use Rattle.manifest.specs.Head.{optional, beyond, modulesOf, headOf, grantLines}
+use Rattle.manifest.specs.Saying.{isGood, modulesSaid, manifestOf, chargeOf, goodHead, grantsSaid, goodGrants, allGrants, mayRead, mayWrite}
 use Rattle.weave.specs.Args.{recordFine, fieldAt, writeArgs, readArgs, openArgs, nextArgs, closeHandle, topicFine, filterFine, outFine, payloadFine}
 use Rattle.takes.specs.Payloads.{payloadChecked}
 use Rattle.writes.specs.Stage.{isPanic, writtenTopic, dataLen}
@@ -34,19 +37,24 @@ unfolding memory leBytes
 long-memory = refl
 
 pub said-good : isGood (manifestOf twoModules) ≡ true
-unfolding manifestOf goodHead modulesOf grantLines grantsSaid goodGrants allGrants closed modulesIn fields lineAt lines sameBytes field modulesWord oneTo numberOf noLeadingZero numberFrom digits valueFrom holderIn grantForm grantWord inWord outWord goodText utf8 utf8From after noControl
+unfolding manifestOf goodHead modulesOf headOf optional beyond grantLines grantsSaid goodGrants allGrants closed modulesIn chargeIn numberIn fields lineAt lines sameBytes field modulesWord chargeWord oneTo numberOf noLeadingZero numberFrom digits valueFrom holderIn grantForm grantWord inWord outWord goodText utf8 utf8From after noControl
 said-good = refl
 
 pub said-two : modulesSaid (manifestOf twoModules) ≡ 2
-unfolding manifestOf goodHead modulesOf grantLines grantsSaid goodGrants allGrants closed modulesIn fields lineAt lines sameBytes field modulesWord oneTo numberOf noLeadingZero numberFrom digits valueFrom holderIn grantForm grantWord inWord outWord goodText utf8 utf8From after noControl
+unfolding manifestOf goodHead modulesOf headOf optional beyond grantLines grantsSaid goodGrants allGrants closed modulesIn chargeIn numberIn fields lineAt lines sameBytes field modulesWord chargeWord oneTo numberOf noLeadingZero numberFrom digits valueFrom holderIn grantForm grantWord inWord outWord goodText utf8 utf8From after noControl
 said-two = refl
 
+-- "1 (also when absent)"
+pub said-first : chargeOf twoModules ≡ chargeBy First
+unfolding chargeOf chargeNamed manifestOf goodHead modulesOf headOf optional beyond grantLines grantsSaid goodGrants allGrants closed modulesIn chargeIn numberIn fields lineAt lines sameBytes field modulesWord chargeWord oneTo numberOf noLeadingZero numberFrom digits valueFrom holderIn grantForm grantWord inWord outWord goodText utf8 utf8From after noControl
+said-first = refl
+
 pub may-write : mayWrite twoModules 1 (116 ∷ []) ≡ true
-unfolding mayWrite granted anyGives gives rightIn coreTopic logTopic panicTopic manifestOf goodHead modulesOf grantLines grantsSaid goodGrants allGrants closed modulesIn fields lineAt lines sameBytes field modulesWord oneTo numberOf noLeadingZero numberFrom digits valueFrom holderIn grantForm grantWord inWord outWord goodText utf8 utf8From after noControl
+unfolding mayWrite granted anyGives gives rightIn coreTopic logTopic panicTopic manifestOf goodHead modulesOf headOf optional beyond grantLines grantsSaid goodGrants allGrants closed modulesIn chargeIn numberIn fields lineAt lines sameBytes field modulesWord chargeWord oneTo numberOf noLeadingZero numberFrom digits valueFrom holderIn grantForm grantWord inWord outWord goodText utf8 utf8From after noControl
 may-write = refl
 
 pub may-read : (mayRead twoModules 1 (116 ∷ []) ≡ true) × (mayRead twoModules 2 (116 ∷ []) ≡ true)
-unfolding mayRead granted anyGives gives rightIn manifestOf goodHead modulesOf grantLines grantsSaid goodGrants allGrants closed modulesIn fields lineAt lines sameBytes field modulesWord oneTo numberOf noLeadingZero numberFrom digits valueFrom holderIn grantForm grantWord inWord outWord goodText utf8 utf8From after noControl
+unfolding mayRead granted anyGives gives rightIn manifestOf goodHead modulesOf headOf optional beyond grantLines grantsSaid goodGrants allGrants closed modulesIn chargeIn numberIn fields lineAt lines sameBytes field modulesWord chargeWord oneTo numberOf noLeadingZero numberFrom digits valueFrom holderIn grantForm grantWord inWord outWord goodText utf8 utf8From after noControl
 may-read = (refl, refl)
 
 -- ---- the argument records

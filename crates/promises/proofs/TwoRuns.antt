@@ -16,6 +16,7 @@ use Rattle.text.specs.Flags.{goodFlags}
 use Rattle.text.specs.Span.{inside}
 use Rattle.text.specs.Sizes.{totalLen}
 use Rattle.value.specs.declared.Checked.{Checked}
+use Rattle.manifest.specs.Charge.{chargeBy}
 use Rattle.manifest.specs.Rights.{granted}
 use Rattle.manifest.specs.Saying.{mayRead}
 use Rattle.record.specs.Record.{idOf, topicOf}
@@ -51,7 +52,7 @@ use Rattle.reads.specs.Reading.{readSound, readList, readPage, readCheck, readA
 use Rattle.reads.specs.Paging.{nextSound, nextList, nextPage, nextCheck, nextCursor, nextHost, nextAnswer}
 use Rattle.host.specs.Cursors.{openCheck, openNext, openAnswer, closeCheck, closeNext, closeAnswer}
 use Rattle.host.specs.Ending.{committed, finished, returnAnswer, returnCard, returnStaging}
-use Rattle.promises.specs.Box.{World, recordsOn, cardRecords, Begin, Write, Read, Open, Next, Close, Return, Answered, Ended, step, isRefused, mountedAs}
+use Rattle.promises.specs.Box.{World, recordsOn, cardRecords, Begin, Write, Read, Open, Next, Close, Return, Answered, Ended, boxOf, step, isRefused, mountedAs}
 use Rattle.promises.specs.Accepted.{WriteMay, ReadMay, OpenMay, NextMay, CloseMay}
 use Rattle.promises.specs.Outcome.{Conditions, nextTurn}
 use Rattle.promises.specs.Diary.{Diary, writtenRecord, firstPage}
@@ -65,7 +66,7 @@ use Rattle.promises.proofs.AskedHolds.{asked-by}
 use Rattle.promises.proofs.ReadBackHolds.{write-reads-back}
 use Rattle.promises.proofs.ListHolds.{means-listed}
 use Rattle.promises.proofs.RunLaws.{no-bytes, long, At, one-more, emptyBox, mount-ok, mount-host, at-first}
-use Rattle.promises.proofs.TwoLaws.{long-memory, said-good, said-two, may-write, may-read, topic-is, write-args, read-args, open-args, next-args, close-arg, records-fine, topic-fine, filter-fine, out-fine, no-panic, payload-fine, raw, memory-bytes, topic-long, data-none, topic-read}
+use Rattle.promises.proofs.TwoLaws.{long-memory, said-good, said-first, said-two, may-write, may-read, topic-is, write-args, read-args, open-args, next-args, close-arg, records-fine, topic-fine, filter-fine, out-fine, no-panic, payload-fine, raw, memory-bytes, topic-long, data-none, topic-read}
 
 one-listed : (p : List ℕ → Bool) (d : Bool) (k : ℕ) (r : List ℕ) → d ≡ false → k ≡ 9 → p r ≡ true → take k (only p (inOrder d (r ∷ []))) ≡ r ∷ []
 unfolding only inOrder
@@ -95,7 +96,7 @@ module _ (n c : ℕ) (n-least : 65536 ≤ n) (n-most : n ≤ 1048576) (c-least :
   f₀ = settle-ok (w₀ .host) _ 0 _ e₀
 
   abbrev w₁ : World
-  w₁ = record { host = withWeave (w₀ .host) (begun hundred); lent = lentAs (zeros (length (zeros n))) (zeros c) twoModules }
+  w₁ = boxOf (withWeave (w₀ .host) (begun hundred)) (lentAs (zeros (length (zeros n))) (zeros c) twoModules)
 
   s₀ : step w₀ (Begin hundred) .said ≡ Answered Fine 0
   unfolding step beginAnswer settle
@@ -116,8 +117,8 @@ module _ (n c : ℕ) (n-least : 65536 ≤ n) (n-most : n ≤ 1048576) (c-least :
 
   -- ---- write
 
-  may₁ : WriteMay (w₁ .lent) (w₁ .host) memory 8
-  unfolding withWeave begun begunWeave argAt leAt freshHost goodFlags roomFine
+  may₁ : WriteMay (w₁ .charge) (w₁ .lent) (w₁ .host) memory 8
+  unfolding withWeave begun begunWeave argAt leAt freshHost goodFlags roomFine chargeBy
   may₁ = record {
     gated = record { memory = rw long-memory (omega arith); check-1 = at₁ .check-1; running = refl; unspoiled = refl };
     args = records-fine .0;
@@ -127,13 +128,13 @@ module _ (n c : ℕ) (n-least : 65536 ≤ n) (n-most : n ≤ 1048576) (c-least :
     granted = rw topic-read may-write;
     value = ap (λ (k : Checked). k .fault) raw;
     room = λ p. rw (topic-long, data-none, staging₁, le-leb 136 n (omega arith));
-    budget = λ p. rw (topic-long, data-none) (omega arith);
+    budget = λ p. rw (said-first, topic-long, data-none) (omega arith);
   }
 
   e₁ : isRefused (step w₁ (Write memory 8) .said) ≡ false
   e₁ = write-exactly w₁ memory 8 .1 may₁
 
-  f₁ : isFine (writeCheck (w₁ .lent) (w₁ .host) memory 8) ≡ true
+  f₁ : isFine (writeCheck (w₁ .charge) (w₁ .lent) (w₁ .host) memory 8) ≡ true
   unfolding step writeAnswer
   f₁ = settle-ok (w₁ .host) _ 0 _ e₁
 
@@ -145,10 +146,9 @@ module _ (n c : ℕ) (n-least : 65536 ≤ n) (n-most : n ≤ 1048576) (c-least :
   bytes₂ = totalLen (writeArgs memory 8 .topic .len) (dataLen memory 8)
 
   abbrev w₂ : World
-  w₂ = record {
-    host = withWeave (w₁ .host) (holding (paid (w₁ .host .weave) (writeCharge (writeArgs memory 8 .topic .len) (dataLen memory 8))) bytes₂ (length (w₁ .lent .staging)));
-    lent = lentAs (splice (w₁ .lent .staging) (w₁ .host .weave .staged) event) (zeros c) twoModules;
-  }
+  w₂ =
+      boxOf (withWeave (w₁ .host) (holding (paid (w₁ .host .weave) (writeCharge (w₁ .charge) memory 8)) bytes₂ (length (w₁ .lent .staging))))
+      (lentAs (splice (w₁ .lent .staging) (w₁ .host .weave .staged) event) (zeros c) twoModules)
 
   s₁ : step w₁ (Write memory 8) .said ≡ Answered Fine 0
   unfolding step writeAnswer settle
@@ -180,7 +180,7 @@ module _ (n c : ℕ) (n-least : 65536 ≤ n) (n-most : n ≤ 1048576) (c-least :
   event-id = written₁ .id
 
   abbrev d₂ : Diary
-  d₂ = record { kept = recordsOn (zeros c) 0; staged = event ∷ []; units = 0 + (1 + length event / 8) }
+  d₂ = record { kept = recordsOn (zeros c) 0; staged = event ∷ []; units = 0 + w₁ .charge (length event) }
 
   at₂ : At l (take 2 theCalls) w₂ d₂
   at₂ = rw no-panic at (one-more l fine (take 1 theCalls) w₁ d₁ at₁ (Write memory 8) memory-bytes e₁ w₂ q₁)
@@ -202,7 +202,7 @@ module _ (n c : ℕ) (n-least : 65536 ≤ n) (n-most : n ≤ 1048576) (c-least :
       (record { returns = record { check-1 = at₂ .check-1; running = refl }; unspoiled = refl; zero-or-one = inl refl }, rw said-two (omega arith))
 
   abbrev w₃ : World
-  w₃ = record { host = withWeave (w₂ .host) (nextTurn (w₂ .host .weave)); lent = w₂ .lent }
+  w₃ = boxOf (withWeave (w₂ .host) (nextTurn (w₂ .host .weave))) (w₂ .lent)
 
   at₃ : At l (take 3 theCalls) w₃ d₂
   at₃ = rw s₂ at (one-more l fine (take 2 theCalls) w₂ d₂ at₂ (Return (pos 0)) no-bytes (ap isRefused s₂) w₃ (turn-passes w₂ (pos 0) s₂))
@@ -218,7 +218,7 @@ module _ (n c : ℕ) (n-least : 65536 ≤ n) (n-most : n ≤ 1048576) (c-least :
   page₃ = rw (event-long, event-long)
 
   may₃ : ReadMay (w₃ .lent) (w₃ .host) memory 48
-  unfolding withWeave holding paid begun begunWeave argAt leAt added freshHost
+  unfolding withWeave holding paid begun begunWeave argAt leAt added freshHost chargeBy
   may₃ = record {
     gated = record { memory = rw long-memory (omega arith); check-1 = at₃ .check-1; running = refl; unspoiled = refl };
     args = records-fine .1 .0;
@@ -227,7 +227,7 @@ module _ (n c : ℕ) (n-least : 65536 ≤ n) (n-most : n ≤ 1048576) (c-least :
     granted = rw (read-args, topic-is) (may-read .1);
     sound = at₃ .agrees .carried;
     room = rw (list₃, read-args, page₃);
-    budget = rw (list₃, read-args, page₃, topic-long, data-none) (omega arith);
+    budget = rw (list₃, read-args, page₃, said-first, topic-long, data-none) (omega arith);
   }
 
   e₃ : isRefused (step w₃ (Read memory 48) .said) ≡ false
@@ -238,7 +238,7 @@ module _ (n c : ℕ) (n-least : 65536 ≤ n) (n-most : n ≤ 1048576) (c-least :
   f₃ = settle-ok (w₃ .host) _ _ _ e₃
 
   abbrev w₄ : World
-  w₄ = record { host = withWeave (w₃ .host) (paid (w₃ .host .weave) (pageCharge (readPage (w₃ .lent) (w₃ .host) memory 48))); lent = w₃ .lent }
+  w₄ = boxOf (withWeave (w₃ .host) (paid (w₃ .host .weave) (pageCharge (readPage (w₃ .lent) (w₃ .host) memory 48)))) (w₃ .lent)
 
   q₃ : step w₃ (Read memory 48) .world ≡ w₄
   unfolding step readAnswer settle
@@ -249,7 +249,7 @@ module _ (n c : ℕ) (n-least : 65536 ≤ n) (n-most : n ≤ 1048576) (c-least :
   s₃ = rw (f₃, read-page w₃ memory 48 (first-left (readSound (w₃ .lent) (w₃ .host) memory 48) _ f₃), list₃, read-args, page₃)
 
   abbrev d₄ : Diary
-  d₄ = record { kept = recordsOn (zeros c) 0; staged = event ∷ []; units = (0 + (1 + length event / 8)) + (1 + 136 / 8) }
+  d₄ = record { kept = recordsOn (zeros c) 0; staged = event ∷ []; units = (0 + w₁ .charge (length event)) + (1 + 136 / 8) }
 
   at₄ : At l (take 4 theCalls) w₄ d₄
   at₄ = rw s₃ at (one-more l fine (take 3 theCalls) w₃ d₂ at₃ (Read memory 48) memory-bytes e₃ w₄ q₃)
@@ -273,10 +273,9 @@ module _ (n c : ℕ) (n-least : 65536 ≤ n) (n-most : n ≤ 1048576) (c-least :
   s₄ = committed-exactly w₄ (pos 0) 1 136 .1 (meets₄, (sym count₂, sym staged₂))
 
   abbrev w₅ : World
-  w₅ = record {
-    host = committed (w₄ .host) (w₄ .host .weave .count) (w₄ .host .weave .staged);
-    lent = lentAs (zeros (length (w₄ .lent .staging))) (splice (zeros c) (w₄ .host .used) (take (w₄ .host .weave .staged) (w₄ .lent .staging))) twoModules;
-  }
+  w₅ =
+      boxOf (committed (w₄ .host) (w₄ .host .weave .count) (w₄ .host .weave .staged))
+      (lentAs (zeros (length (w₄ .lent .staging))) (splice (zeros c) (w₄ .host .used) (take (w₄ .host .weave .staged) (w₄ .lent .staging))) twoModules)
 
   q₄ : step w₄ (Return (pos 0)) .world ≡ w₅
   unfolding step returnAnswer returnCard returnStaging finished
@@ -299,7 +298,7 @@ module _ (n c : ℕ) (n-least : 65536 ≤ n) (n-most : n ≤ 1048576) (c-least :
   f₅ = settle-ok (w₅ .host) _ 0 _ e₅
 
   abbrev w₆ : World
-  w₆ = record { host = withWeave (w₅ .host) (begun hundred); lent = lentAs (zeros (length (w₅ .lent .staging))) (w₅ .lent .card) twoModules }
+  w₆ = boxOf (withWeave (w₅ .host) (begun hundred)) (lentAs (zeros (length (w₅ .lent .staging))) (w₅ .lent .card) twoModules)
 
   s₅ : step w₅ (Begin hundred) .said ≡ Answered Fine 0
   unfolding step beginAnswer settle
@@ -336,7 +335,7 @@ module _ (n c : ℕ) (n-least : 65536 ≤ n) (n-most : n ≤ 1048576) (c-least :
   slot₆ = opening memory (openArgs memory 88) 1
 
   abbrev w₇ : World
-  w₇ = record { host = withWeave (w₆ .host) (openedWith (w₆ .host .weave) slot₆); lent = w₆ .lent }
+  w₇ = boxOf (withWeave (w₆ .host) (openedWith (w₆ .host .weave) slot₆)) (w₆ .lent)
 
   s₆ : step w₆ (Open memory 88) .said ≡ Answered Fine 1
   unfolding step openAnswer settle withWeave begun begunWeave added
@@ -408,7 +407,7 @@ module _ (n c : ℕ) (n-least : 65536 ≤ n) (n-most : n ≤ 1048576) (c-least :
   cursor₈ = advance cursor₆ (event ∷ [])
 
   abbrev w₈ : World
-  w₈ = record { host = withWeave (w₇ .host) (movedTo (w₇ .host .weave) 1 cursor₈ 18); lent = w₇ .lent }
+  w₈ = boxOf (withWeave (w₇ .host) (movedTo (w₇ .host .weave) 1 cursor₈ 18)) (w₇ .lent)
 
   page₇ : nextPage (w₇ .lent) (w₇ .host) memory 136 ≡ Sized 136
   unfolding nextCheck
@@ -475,7 +474,7 @@ module _ (n c : ℕ) (n-least : 65536 ≤ n) (n-most : n ≤ 1048576) (c-least :
   page₈ = next-page w₈ memory 136 (first-left (nextSound (w₈ .lent) (w₈ .host) memory 136) _ f₈) ∙ rw (next-args, list₈)
 
   abbrev w₉ : World
-  w₉ = record { host = withWeave (w₈ .host) (movedTo (w₈ .host .weave) 1 cursor₈ 1); lent = w₈ .lent }
+  w₉ = boxOf (withWeave (w₈ .host) (movedTo (w₈ .host .weave) 1 cursor₈ 1)) (w₈ .lent)
 
   s₈ : step w₈ (Next memory 136) .said ≡ Answered Fine 0
   unfolding step nextAnswer settle
@@ -510,7 +509,7 @@ module _ (n c : ℕ) (n-least : 65536 ≤ n) (n-most : n ≤ 1048576) (c-least :
   f₉ = settle-ok (w₉ .host) _ _ _ e₉
 
   abbrev w₁₀ : World
-  w₁₀ = record { host = withWeave (w₉ .host) (closedAt (w₉ .host .weave) 1); lent = w₉ .lent }
+  w₁₀ = boxOf (withWeave (w₉ .host) (closedAt (w₉ .host .weave) 1)) (w₉ .lent)
 
   s₉ : step w₉ (Close memory 160) .said ≡ Answered Fine 0
   unfolding step closeAnswer settle

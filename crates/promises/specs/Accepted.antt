@@ -67,7 +67,8 @@ pub record Gated (l : Lent) (h : Host) (size : ℕ) : Type 0 where
   pub running : h .weave .running ≡ true
   pub unspoiled : h .weave .spoiled .0 ≡ Not
 
-pub record WriteMay (l : Lent) (h : Host) (m : List ℕ) (a : ℕ) : Type 0 where
+-- by a charge rule
+pub record WriteMay (charge : ℕ → ℕ) (l : Lent) (h : Host) (m : List ℕ) (a : ℕ) : Type 0 where
   pub gated : Gated l h (length m)
   pub args : recordFine m a 40 ≡ true
   pub topic : topicFine m (writeArgs m a .topic) ≡ true
@@ -79,7 +80,7 @@ pub record WriteMay (l : Lent) (h : Host) (m : List ℕ) (a : ℕ) : Type 0 wher
   -- a panic counts "once through check 8"
   pub room : isPanic m a ≡ false → roomFine h (writeArgs m a .topic .len) (dataLen m a) (length (l .staging)) ≡ true
   -- "If units + charge > res_max the call is -6"
-  pub budget : isPanic m a ≡ false → h .weave .units + writeCharge (writeArgs m a .topic .len) (dataLen m a) ≤ h .weave .resmax
+  pub budget : isPanic m a ≡ false → h .weave .units + writeCharge charge m a ≤ h .weave .resmax
 
 pub record ReadMay (l : Lent) (h : Host) (m : List ℕ) (a : ℕ) : Type 0 where
   pub gated : Gated l h (length m)

@@ -7,6 +7,7 @@ use Prim.Native.Nat.{ℕ}
 use lib.IntN.{ℤ, pos}
 use lib.ListN.{length, take}
 use Rattle.le.specs.Le.{Bytes}
+use Rattle.manifest.specs.Saying.{chargeOf}
 use Rattle.card.specs.Records.{records}
 use Rattle.card.specs.Walk.{chainTo}
 use Rattle.weave.specs.declared.Code.{Code}
@@ -26,10 +27,16 @@ use Rattle.reads.specs.Paging.{nextAnswer, nextMemory}
 use Rattle.host.specs.Ending.{returnAnswer, returnCard, returnStaging}
 use Rattle.mounts.specs.Mount.{mounted, looked}
 
--- a box between two calls: its state, and the buffers it is lent
+-- A box between two calls: its state, the buffers it is lent, and its charge rule, from a record's length to units. Here the rule is any such function: what is
+-- shown of every box is shown once for every rule.
 pub record World : Type 0 where
   pub host : Host
   pub lent : Lent
+  pub charge : ℕ → ℕ
+
+-- the box that a host with these buffers is: its rule is the one that the manifest names (02, A11)
+abbrev pub boxOf : Host → Lent → World
+boxOf h l = record { host = h; lent = l; charge = chargeOf (l .text) }
 
 -- the records of a card of which so many bytes are used: "Ids start at 1"
 abbrev pub recordsOn : List ℕ → ℕ → List (List ℕ)
@@ -77,7 +84,7 @@ abbrev pub answered : World → Answer → List ℕ → List ℕ → Step
 answered w a staging′ memory′ =
     record {
       said = Answered (a .code) (a .value);
-      world = record { host = a .host; lent = lentAs staging′ (w .lent .card) (w .lent .text) };
+      world = record { host = a .host; lent = lentAs staging′ (w .lent .card) (w .lent .text); charge = w .charge };
       memory = memory′;
     }
 
@@ -86,7 +93,7 @@ unfoldable pub step : World → Op → Step
 step w (Begin args) = answered w (beginAnswer (w .lent) (w .host) args) (beginStaging (w .lent) (w .host) args) []
 step w (Ingress topic payload) =
     answered w (ingressAnswer (w .lent) (w .host) topic payload) (ingressStaging (w .lent) (w .host) topic payload) []
-step w (Write m a) = answered w (writeAnswer (w .lent) (w .host) m a) (writeStaging (w .lent) (w .host) m a) m
+step w (Write m a) = answered w (writeAnswer (w .charge) (w .lent) (w .host) m a) (writeStaging (w .charge) (w .lent) (w .host) m a) m
 step w (Read m a) = answered w (readAnswer (w .lent) (w .host) m a) (w .lent .staging) (readMemory (w .lent) (w .host) m a)
 step w (Open m a) = answered w (openAnswer (w .lent) (w .host) m a) (w .lent .staging) m
 step w (Next m a) = answered w (nextAnswer (w .lent) (w .host) m a) (w .lent .staging) (nextMemory (w .lent) (w .host) m a)
@@ -97,6 +104,7 @@ step w (Return code) =
       world = record {
         host = returnAnswer (w .lent) (w .host) code .host;
         lent = lentAs (returnStaging (w .lent) (w .host) code) (returnCard (w .lent) (w .host) code) (w .lent .text);
+        charge = w .charge;
       };
       memory = [];
     }
@@ -136,9 +144,12 @@ abbrev pub run : World → List Op → World
 run w [] = w
 run w (o ∷ os) = run (step w o .world) os
 
--- the box as mount leaves it
+-- the box as mount leaves it, under any charge rule; and as it is, under the one that the manifest names
+abbrev pub mountedUnder : (ℕ → ℕ) → Lent → ℕ → World
+mountedUnder charge′ l used = record { host = mounted l used .host; lent = l; charge = charge′ }
+
 abbrev pub mountedAs : Lent → ℕ → World
-mountedAs l used = record { host = mounted l used .host; lent = l }
+mountedAs l used = boxOf (mounted l used .host) l
 
 -- ---- 01's numbers for what is said
 

@@ -107,7 +107,7 @@ writeAsks w m a =
     ∷ check (not (isUnfit (payloadChecked m (writeArgs m a) .fault))) BadValue
     -- a panic counts "once through check 8"
     ∷ check (isPanic m a || roomFine (w .host) (writeArgs m a .topic .len) (dataLen m a) (length (w .lent .staging))) NoRoom  -- (9)
-    ∷ check (isPanic m a || leb (w .host .weave .units + writeCharge (writeArgs m a .topic .len) (dataLen m a)) (w .host .weave .resmax)) Budget  -- (10)
+    ∷ check (isPanic m a || leb (w .host .weave .units + writeCharge (w .charge) m a) (w .host .weave .resmax)) Budget  -- (10)
     ∷ []
 
 abbrev pub readFirst : World → List ℕ → ℕ → List Check

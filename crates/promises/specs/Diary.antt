@@ -39,7 +39,7 @@ answerOf (Answered c v) = v
 answerOf (Ended f) = 0
 answerOf (Part bytes) = 0
 
--- "Charges: write 1 + total_len / 8; read and next 1 + bytes written / 8; open and close 1"
+-- "units are a sum over the accepted module calls"
 abbrev pub spent : Diary → ℕ → Diary
 spent d charge = record { kept = d .kept; staged = d .staged; units = d .units + charge }
 
@@ -63,12 +63,12 @@ endedBy d (Answered c v) = d
 endedBy d (Ended f) = ended d f
 endedBy d (Part bytes) = d
 
--- the entry of a call that was accepted
+-- the entry of a call that was accepted. "Charges: write ..", by the box's rule; "read and next 1 + bytes written / 8; open and close 1"
 abbrev pub noted : World → Diary → Op → Diary
 noted w d (Begin args) = emptied d
 noted w d (Ingress topic payload) = held d (ingressRecord w topic payload)
 noted w d (Write m a) =
-    cond (isPanic m a) d (spent (held d (writtenRecord w m a)) (1 + length (writtenRecord w m a) / 8))
+    cond (isPanic m a) d (spent (held d (writtenRecord w m a)) (w .charge (length (writtenRecord w m a))))
 noted w d (Read m a) = spent d (1 + answerOf (step w (Read m a) .said) / 8)
 noted w d (Open m a) = spent d 1
 noted w d (Next m a) = spent d (1 + answerOf (step w (Next m a) .said) / 8)

@@ -15,6 +15,9 @@ use Rattle.text.specs.Flags.{goodFlags}
 use Rattle.value.specs.Cells.{cellBytes}
 use Rattle.value.specs.Scalars.{canonical}
 use Rattle.value.specs.Forms.{payload}
+use Rattle.manifest.specs.declared.charge.Charge.{Charge}
+use Rattle.manifest.specs.declared.charge.Charge.the-variants.{First, Second}
+use Rattle.manifest.specs.Charge.{chargeBy}
 use Rattle.card.specs.Pick.{All}
 use Rattle.card.specs.declared.Cursor.{Cursor}
 use Rattle.weave.specs.declared.Code.{Code}
@@ -43,6 +46,7 @@ pub data Case : Type 0 where
   window : ℕ → ℕ → ℕ → ℤ → Case
   twoLeft : ℕ → ℤ → Case
   returned : ℤ → Code → Case
+  costs : Charge → ℕ → ℕ → Case
 
 -- a next that passes its checks up to the soundness of the card, and could pay for n bytes
 pub record Ready (w : World) (m : List ℕ) (a n : ℕ) : Type 0 where
@@ -56,7 +60,7 @@ cursorAt w m a = cursorOf (w .host .weave) (nextArgs m a .handle)
 -- what a case says: the total_len of a topic and a payload of these lengths; the data_len of the value at p of memory m; good flags; a span inside; a
 -- float's bits as they are stored (`float-canonical` of value's proofs/ScalarLaws.antt ties `canonical` to the code's float); a good topic, a good filter, a topic
 -- that a card may keep; UTF-8; whatever the box, what a next answers whose cursor has this window and limit, and one into so many bytes where two records of 152 are left; and what becomes of a weave that is
--- not spoiled by a return with this code
+-- not spoiled by a return with this code; what a write costs by an edition of the charge rule, by the length of its record
 abbrev pub Holds : Case → Type 0
 Holds (total t d n) = totalLen t d ≡ n
 Holds (stored m p n) = length (payload m p) ≡ n
@@ -73,6 +77,7 @@ Holds (window from to limit z) =
 Holds (twoLeft cap z) =
     (w : World) (m : List ℕ) (a : ℕ) (r s : List ℕ) → Ready w m a 304 → nextArgs m a .out .len ≡ cap → listLeft w (nextArgs m a .handle) ≡ r ∷ s ∷ []
     → length r ≡ 152 → length s ≡ 152 → saidNumber (step w (Next m a) .said) ≡ z
+Holds (costs c t n) = chargeBy c t ≡ n
 Holds (returned code c) = (w : World) → Returns w → w .host .weave .spoiled .0 ≡ Not → step w (Return code) .said ≡ Ended (Discarded c)
 
 -- a memory with a string at 8, and the string's 3 bytes, `abc`, behind its 32
@@ -112,4 +117,6 @@ edges =
     ∷ topic (126 ∷ []) true ∷ topic (127 ∷ []) false ∷ topic (0xC2 ∷ 0x80 ∷ []) true
     ∷ filter (126 ∷ []) true ∷ filter (127 ∷ []) false ∷ filter (0xC2 ∷ 0x80 ∷ []) true
     ∷ kept (31 ∷ []) false ∷ kept (126 ∷ []) true ∷ kept (127 ∷ []) true ∷ kept (0xC2 ∷ 0x80 ∷ []) true
+    -- 02, A11: a record of 192 bytes, three times 64, costs 25 by the first edition and 7 by the second; one of 200 costs 26 and 8
+    ∷ costs First 192 25 ∷ costs Second 192 7 ∷ costs First 200 26 ∷ costs Second 200 8
     ∷ []

@@ -9,5 +9,6 @@ pub mod Standing
 pub mod Turn
 pub mod ReadBack
 pub mod Naming
+pub mod Charging
 pub mod Edges
 pub mod TwoWeaves

@@ -185,7 +185,7 @@ firstTurn args = record {
 
 -- .. and nothing else of the box has changed
 abbrev pub begunWith : World → List ℕ → World
-begunWith w args = record { host = withWeave (w .host) (firstTurn args); lent = lentAs (zeros (length (w .lent .staging))) (w .lent .card) (w .lent .text) }
+begunWith w args = record { host = withWeave (w .host) (firstTurn args); lent = lentAs (zeros (length (w .lent .staging))) (w .lent .card) (w .lent .text); charge = w .charge }
 
 -- one weave: what begin set stays while it runs
 pub record SameWeave (was is : World) : Type 0 where

@@ -5,6 +5,7 @@ use mathlib.Core.List.{List, _++_}
 use Prim.Native.Nat.{ℕ}
 use lib.IntN.{ℤ}
 use Rattle.le.specs.Splice.{part}
+use Rattle.manifest.specs.Saying.{chargeOf}
 use Rattle.host.specs.declared.Host.{Host}
 use Rattle.host.specs.declared.Answer.{Answer}
 use Rattle.host.specs.declared.Returned.{Returned}
@@ -31,20 +32,20 @@ begin-does l h m args s o o′ a units time n ea e es p =
     is : a ≡ beginAnswer l h (beginLaid units time)
     is = e ∙ ap (beginAnswer l h) ea
 
-pub write-does : (l : Lent) (h : Host) (m m′ s o o′ : List ℕ) (a : Answer) (n : ℕ) → m′ ≡ m → a ≡ writeAnswer l h m′ 8 → s ≡ writeStaging l h m′ 8
+pub write-does : (l : Lent) (h : Host) (m m′ s o o′ : List ℕ) (a : Answer) (n : ℕ) → m′ ≡ m → a ≡ writeAnswer (chargeOf (l .text)) l h m′ 8 → s ≡ writeStaging (chargeOf (l .text)) l h m′ 8
     → Put o o′ 0 (saidAnswer writeWord (a .code) (a .value)) n → Does (writeAfter l h m) (a .host) m′ s (l .card) o o′ n
 unfolding writeAfter
 write-does l h m m′ s o o′ a n em e es p =
     record {
       host = ap (λ (x : Answer). x .host) is;
       memory = em;
-      staging = es ∙ ap (λ (x : List ℕ). writeStaging l h x 8) em;
+      staging = es ∙ ap (λ (x : List ℕ). writeStaging (chargeOf (l .text)) l h x 8) em;
       card = refl;
       said = rw is at p;
     }
   where
-    is : a ≡ writeAnswer l h m 8
-    is = e ∙ ap (λ (x : List ℕ). writeAnswer l h x 8) em
+    is : a ≡ writeAnswer (chargeOf (l .text)) l h m 8
+    is = e ∙ ap (λ (x : List ℕ). writeAnswer (chargeOf (l .text)) l h x 8) em
 
 pub open-does : (l : Lent) (h : Host) (m m′ o o′ : List ℕ) (a : Answer) (n : ℕ) → m′ ≡ m → a ≡ openAnswer l h m′ 8
     → Put o o′ 0 (saidAnswer openWord (a .code) (a .value)) n → Does (openAfter l h m) (a .host) m′ (l .staging) (l .card) o o′ n

@@ -5,6 +5,7 @@ use mathlib.Core.List.{List, _++_}
 use Prim.Native.Nat.{ℕ}
 use lib.IntN.{ℤ}
 use Rattle.le.specs.Splice.{part}
+use Rattle.manifest.specs.Saying.{chargeOf}
 use Rattle.host.specs.declared.Host.{Host}
 use Rattle.host.specs.Hosts.{Lent}
 use Rattle.host.specs.Begin.{beginAnswer, beginStaging}
@@ -48,11 +49,11 @@ beginAfter l h m units time =
 unfoldable pub writeAfter : Lent → Host → List ℕ → After
 writeAfter l h m =
     record {
-      host = writeAnswer l h m 8 .host;
+      host = writeAnswer (chargeOf (l .text)) l h m 8 .host;
       memory = m;
-      staging = writeStaging l h m 8;
+      staging = writeStaging (chargeOf (l .text)) l h m 8;
       card = l .card;
-      said = saidAnswer writeWord (writeAnswer l h m 8 .code) (writeAnswer l h m 8 .value);
+      said = saidAnswer writeWord (writeAnswer (chargeOf (l .text)) l h m 8 .code) (writeAnswer (chargeOf (l .text)) l h m 8 .value);
     }
 
 unfoldable pub openAfter : Lent → Host → List ℕ → After
