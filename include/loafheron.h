@@ -12,7 +12,7 @@
  *   memory    of the module whose turn it is: 0 to 1,048,576 bytes; only the five module calls are lent it
  *   staging   65,536 to 1,048,576 bytes: where events wait for the end of the weave
  *   card      0 to 16,777,216 bytes: its first `used` bytes are the records
- *   manifest  at most 65,536 bytes: how many modules there are, and what each may write, read and list
+ *   manifest  at most 65,536 bytes: how many modules there are, what a write costs, and what each module may write, read and list
  * Staging, card and manifest have the same lengths at every call as at mount; other lengths are refused with -5. A buffer
  * that is lent as `const` is not changed. Two buffers of one call must not overlap, and no pointer may be null, not even
  * with a length of 0: these two rules are C's, and the host cannot look at them. Where they are kept, and the stack suffices, every call is
@@ -24,6 +24,13 @@
  * A TOPIC has 1 to 2,048 bytes, a filter 0 to 64, in UTF-8 with no control byte (0 to 31, and 127): else -5, in a call, at
  * ingress and in the manifest. A record from before may have byte 127 in its topic: the card mounts, look-up shows it, and no
  * list and no read has it.
+ *
+ * CHARGES. Module calls spend the units of a weave; begin gives it res_max of them. A write costs 1 + total_len / 8, total_len being
+ * the bytes of its record: 128, the topic and the payload, each of these two rounded up to 8. Read and next cost 1 and an eighth
+ * of the bytes written, open and close 1, a panic and ingress nothing. A call that would cost more than is left is -6, costs
+ * nothing, and spoils the weave. The manifest's second line may be `charge`, a tab, and 1 or 2: under 2 a write costs
+ * 4 + total_len / 64, rounded up; 1 is as without the line. Of another form, or in another place, the line makes the manifest bad,
+ * -5. The rule is that of the manifest as it is lent to the call.
  *
  * A REFUSAL leaves every lent byte and the state as before, with one exception: the first -6 marks the weave spoiled.
  *

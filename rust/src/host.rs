@@ -19,6 +19,9 @@ pub struct Refused {
 ///
 /// A topic has 1 to 2,048 bytes, a filter 0 to 64, in UTF-8 with no control byte (0 to 31, and 127): else -5, in a call, at ingress and in
 /// the manifest. A record from before may have byte 127 in its topic: the card mounts, look-up shows it, and no list and no read has it.
+///
+/// Module calls spend the weave's units: a write 1 + total_len / 8, read and next 1 + bytes written / 8, open and close 1. The manifest's second line
+/// may be `charge`, a tab, and 1 or 2: under 2 a write costs 4 + total_len / 64, rounded up; 1 is as without the line. Any other charge line is -5.
 pub struct Host {
     archive: Here,
     state: State,

@@ -11,6 +11,11 @@
 //! [`raw`] himself, in unsafe code, keeps to it himself. What each function answers, and what it leaves in each lent byte, is proved
 //! for every state and every byte, whoever made them.
 //!
+//! # What a call costs
+//!
+//! A weave has the units that begin gives it; a module call that would cost more than is left is -6. What each costs, and the manifest's
+//! line `charge`, which names one of two rules for writes, is told at [`host::Host`].
+//!
 //! # On which machines
 //!
 //! The archive is for x86-64, where it is linked. On other machines it runs in a program of its own, by an emulator, which is told its

@@ -55,6 +55,11 @@ fn next(host: &mut Host, memory: &mut [u8], handle: u64, cap: u64) -> host::Answ
     host.next(memory, 8)
 }
 
+fn close(host: &mut Host, memory: &mut [u8], handle: u64) -> host::Answer {
+    put(memory, 8, &[handle]);
+    host.close(memory, 8)
+}
+
 fn session(units: u64) -> (Host, Vec<u8>) {
     let mut memory = vec![0; 65_536];
     let mut host = Host::mount(buffers(), 0).ok().unwrap();
@@ -210,4 +215,177 @@ fn a_string_is_utf8_or_refused_wherever_a_character_stands() {
             assert_eq!(host.module_return(2), Fate::Discarded(-5));
         }
     }
+}
+
+/// The manifest with this text behind its first line.
+fn charging(text: &[u8]) -> Buffers {
+    let (one, grants) = MANIFEST.split_at(b"modules\t1\n".len());
+    Buffers { manifest: [one, text, grants].concat(), ..buffers() }
+}
+
+fn mounted(buffers: Buffers) -> Result<Host, i64> {
+    Host::mount(buffers, 0).map_err(|refused| refused.code)
+}
+
+/// The line in every form that 02 does not name. (The twin and the differential run have lists of their own: each is written from 02.)
+const BAD_CHARGES: [&[u8]; 26] = [
+    // other numbers
+    b"charge\t0\n",
+    b"charge\t3\n",
+    b"charge\t10\n",
+    b"charge\t21\n",
+    b"charge\t01\n",
+    b"charge\t\n",
+    b"charge\t+1\n",
+    b"charge\t-1\n",
+    b"charge\t1 \n",
+    b"charge\t 1\n",
+    b"charge\t1\r\n",
+    b"charge\t\xD9\xA1\n",
+    // 2^64 + 1
+    b"charge\t18446744073709551617\n",
+    // other fields
+    b"charge\n",
+    b"charge\t1\t\n",
+    b"charge\t2\t1\n",
+    b"charge\t\t1\n",
+    // other words
+    b"charge 1\n",
+    b"Charge\t1\n",
+    b"CHARGE\t2\n",
+    b" charge\t1\n",
+    b"charges\t1\n",
+    b"charg\t1\n",
+    // twice, or behind an empty line
+    b"charge\t1\ncharge\t1\n",
+    b"charge\t1\ncharge\t2\n",
+    b"\ncharge\t1\n",
+];
+
+/// 02, A11: line two may be `charge` and 1 or 2. "A bad line is a bad manifest."
+#[test]
+fn a_charge_line_of_another_form_is_refused() {
+    for good in [&b""[..], b"charge\t1\n", b"charge\t2\n"] {
+        assert!(mounted(charging(good)).is_ok(), "{good:?}");
+    }
+    for bad in BAD_CHARGES {
+        assert_eq!(mounted(charging(bad)).err(), Some(-5), "{:?}", String::from_utf8_lossy(bad));
+    }
+}
+
+#[test]
+fn a_charge_line_in_another_place_is_refused() {
+    let grant = "grant\t1\tin\ta\n";
+    for line in ["charge\t1\n", "charge\t2\n"] {
+        for bad in [
+            line.to_string(),
+            format!("{line}modules\t1\n"),
+            format!("modules\t1\n{grant}{line}"),
+            format!("modules\t1\n{grant}{line}{grant}"),
+            format!("modules\t1\n{line}{grant}{line}"),
+            // the last line left open
+            format!("modules\t1\n{}", line.trim_end()),
+        ] {
+            let manifest = bad.clone().into_bytes();
+            assert_eq!(mounted(Buffers { manifest, ..buffers() }).err(), Some(-5), "{bad:?}");
+        }
+    }
+}
+
+/// 64 grants and the line; and a manifest of 65,536 bytes with it.
+#[test]
+fn a_charge_line_is_no_grant_and_counts_among_the_bytes() {
+    let grants = |n: usize| ["charge\t2\n", &"grant\t1\tin\ta\n".repeat(n)].concat();
+    // two more stand in MANIFEST
+    assert!(mounted(charging(grants(62).as_bytes())).is_ok());
+    assert_eq!(mounted(charging(grants(63).as_bytes())).err(), Some(-5));
+    let long = ["charge\t2\n", &format!("grant\t1\tin\t{}\n", "t".repeat(1_500)).repeat(43)].concat();
+    for (bytes, answer) in [(65_536, None), (65_537, Some(-5))] {
+        let last = bytes - MANIFEST.len() - long.len() - "grant\t1\tin\t\n".len();
+        let text = format!("{long}grant\t1\tin\t{}\n", "t".repeat(last));
+        let buffers = charging(text.as_bytes());
+        assert_eq!(buffers.manifest.len(), bytes);
+        assert_eq!(mounted(buffers).err(), answer, "{bytes} bytes");
+    }
+}
+
+type Call = fn(&mut Host, &mut [u8]) -> host::Answer;
+
+/// A weave over a card that holds one take of 152 bytes: each call, and what it answers.
+const WEAVE: [(Call, u64); 6] = [
+    // a record of 128 + 16 + 8 = 152 bytes: 1 + 152 / 8 = 20, or under 2: 4 + 152 / 64, which is 2.375, = 7
+    (|host, memory| write(host, memory, b"loop/take", b"chorus"), 0),
+    // the same record is handed over: 1 + 152 / 8 = 20
+    (|host, memory| read(host, memory, b"loop/take"), 152),
+    // 1
+    (|host, memory| open(host, memory, b"loop/"), 1),
+    // the take on the card: 1 + 152 / 8 = 20
+    (|host, memory| next(host, memory, 1, 152), 152),
+    // the end of the list: 1 + 0 / 8 = 1
+    (|host, memory| next(host, memory, 1, 152), 0),
+    // 1
+    (|host, memory| close(host, memory, 1), 0),
+];
+
+/// What is spent after each call.
+const UNDER_1: [u64; 6] = [20, 40, 41, 61, 62, 63];
+const UNDER_2: [u64; 6] = [7, 27, 28, 48, 49, 50];
+
+/// A box with the take, in a weave with so many units. Ingress needs none.
+fn begun(charge: &[u8], res_max: u64) -> Host {
+    let mut host = mounted(charging(charge)).ok().unwrap();
+    assert_eq!(host.begin(&weave(0, 5_000)), Ok(0));
+    assert_eq!(host.ingress(b"loop/take", b"verse"), Ok(0));
+    assert_eq!(host.module_return(0), Fate::Committed { events: 1, bytes: 152 });
+    assert_eq!(host.begin(&weave(res_max, 6_000)), Ok(0));
+    host
+}
+
+/// The units meet the first `paid` calls: these are answered, all others are -6, and the units stay.
+fn meets(paid: usize, res_max: u64, spent: &[u64; 6], charge: &[u8]) {
+    let mut host = begun(charge, res_max);
+    let mut memory = vec![0; 65_536];
+    let mut units = 0;
+    for (n, (call, answer)) in WEAVE.iter().enumerate() {
+        let mut expected = Err(-6);
+        if n < paid {
+            (expected, units) = (Ok(*answer), spent[n]);
+        }
+        let told = (call(&mut host, &mut memory), host.state().units);
+        assert_eq!(told, (expected, units), "call {n} of a weave with {res_max} units, {charge:?}");
+    }
+    let fate = if paid == WEAVE.len() { Fate::Committed { events: 1, bytes: 152 } } else { Fate::Discarded(-6) };
+    assert_eq!(host.module_return(0), fate);
+}
+
+#[test]
+fn each_call_in_turn_is_the_one_that_the_budget_does_not_meet() {
+    for (charge, spent) in [(&b""[..], UNDER_1), (b"charge\t1\n", UNDER_1), (b"charge\t2\n", UNDER_2)] {
+        for (n, units) in spent.into_iter().enumerate() {
+            meets(n, units - 1, &spent, charge);
+            meets(n + 1, units, &spent, charge);
+        }
+    }
+}
+
+/// Behind a topic of 9 bytes, which take 16, a payload of 48 makes a record of 192 bytes, one of 49 a record of 200.
+#[test]
+fn rule_2_rounds_up() {
+    let mut memory = vec![0; 65_536];
+    let mut host = mounted(charging(b"charge\t2\n")).ok().unwrap();
+    // 4 + 192 / 64 = 7; 4 + 200 / 64, which is 3.125, = 8; 4 + 256 / 64 = 8; 4 + 264 / 64, which is 4.125, = 9
+    for (payload, total, units) in [(48, 192, 7), (49, 200, 8), (112, 256, 8), (113, 264, 9)] {
+        assert_eq!(host.begin(&weave(units, 0)), Ok(0));
+        assert_eq!(write(&mut host, &mut memory, b"loop/take", &vec![b'v'; payload]), Ok(0));
+        assert_eq!(host.state().units, units);
+        assert_eq!(host.module_return(0), Fate::Committed { events: 1, bytes: total });
+        assert_eq!(host.begin(&weave(units - 1, 0)), Ok(0));
+        assert_eq!(write(&mut host, &mut memory, b"loop/take", &vec![b'v'; payload]), Err(-6));
+        assert_eq!(host.state().units, 0);
+        assert_eq!(host.module_return(0), Fate::Discarded(-6));
+    }
+    // "stages and charges nothing", under 2 as under 1
+    assert_eq!(host.begin(&weave(0, 0)), Ok(0));
+    assert_eq!(write(&mut host, &mut memory, b"filament/core/panic", b""), Ok(0));
+    assert_eq!(host.module_return(0), Fate::Discarded(-1));
 }

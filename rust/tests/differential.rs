@@ -11,6 +11,27 @@ fn the_host_and_its_twin_agree() {
     }
     assert!(CALLS <= run.calls);
     every_answer_came_up(&run);
+    both_charges_came_up(&run);
+}
+
+fn all_said(run: &differ::Run, call: &'static str, answers: &[&str]) {
+    for answer in answers {
+        assert!(run.tally.contains_key(&(call, answer.to_string())), "{call} never said {answer}");
+    }
+}
+
+/// Both charge rules came up, and every operation was refused for the charge line alone.
+fn both_charges_came_up(run: &differ::Run) {
+    // charged by each rule; by a rule that the weave's last write was not charged by
+    all_said(run, "write", &["0, no charge line", "0, charge 1", "0, charge 2", "0, rule changed"]);
+    // budgets that tell the rules apart, and rule 2 from one that rounds down
+    all_said(run, "write", &["-6, 0 by rule 2", "0, -6 by rule 1", "-6, 0 rounded down"]);
+    // the charge line is none of the grants
+    all_said(run, "mount", &["0, charge, 64 grants", "-5, charge, 65 grants"]);
+    let calls = ["mount", "begin", "ingress", "write", "read", "tl_open", "tl_next", "tl_close", "return", "look-up"];
+    for call in calls {
+        all_said(run, call, &["refused for charge"]);
+    }
 }
 
 /// A run that never saw an answer says nothing about it: each code of each operation came up, and byte 127 wherever a topic stands.
@@ -40,9 +61,7 @@ fn every_answer_came_up(run: &differ::Run) {
         ("tl_next", &["127 in the way"]),
     ];
     for (call, answers) in wanted {
-        for answer in answers {
-            assert!(run.tally.contains_key(&(call, answer.to_string())), "{call} never said {answer}");
-        }
+        all_said(run, call, answers);
     }
     for code in -7..=-1 {
         assert!(run.tally.contains_key(&("return", format!("discarded {code}"))), "no weave was discarded with {code}");

@@ -2,6 +2,7 @@
 use super::dice::Dice;
 use super::stock;
 use super::twin::{Buffer, Call, Twin};
+use crate::model::text::LOG;
 
 /// How a call is to be spoilt: how many of its fields get a number at an edge.
 #[derive(Clone, Copy, Debug, PartialEq, Eq)]
@@ -75,6 +76,18 @@ pub fn write(d: &mut Dice, twin: &mut Twin, topics: &[Vec<u8>], most: usize, har
     let padding = (d.word() << 32) | flags;
     let mut record = Record { at: room(d, twin, 40), words: vec![topic_at, topic.len() as u64, data, len, padding] };
     record.harm(d, memory(twin), harm);
+    record.put(twin);
+    Call::Write { at: record.at }
+}
+
+/// A raw write, to a topic that every module may write, whose record has just so many bytes.
+pub fn write_of(d: &mut Dice, twin: &mut Twin, total: usize) -> Call {
+    let topic_at = put_somewhere(d, twin, LOG);
+    // what is left behind header and topic, less what is padded
+    let n = total - 128 - LOG.len().next_multiple_of(8) - d.index(8);
+    let payload = d.bytes(n);
+    let data = put_somewhere(d, twin, &payload);
+    let record = Record { at: room(d, twin, 40), words: vec![topic_at, LOG.len() as u64, data, n as u64, 1] };
     record.put(twin);
     Call::Write { at: record.at }
 }

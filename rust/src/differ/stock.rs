@@ -60,9 +60,35 @@ pub fn odd_topic(d: &mut Dice) -> Vec<u8> {
     }
 }
 
-/// Who may do what: a good manifest.
+/// How a manifest may name the charge: not at all, or in its second line.
+const CHARGES: [&str; 3] = ["", "charge\t1\n", "charge\t2\n"];
+
+/// Second lines that look as if they named it, and are bad.
+const BAD_CHARGES: [&str; 19] = [
+    "charge\t0\n",
+    "charge\t3\n",
+    "charge\t10\n",
+    "charge\t12\n",
+    "charge\t01\n",
+    "charge\t\n",
+    "charge\t+1\n",
+    "charge\t-1\n",
+    "charge\t1 \n",
+    "charge\t1\r\n",
+    "charge\t18446744073709551617\n",
+    "charge\n",
+    "charge\t1\t\n",
+    "charge\t2\t1\n",
+    "charge\t\t1\n",
+    "charge 1\n",
+    "Charge\t1\n",
+    " charge\t2\n",
+    "charges\t1\n",
+];
+
+/// Who may do what, and what a write costs: a good manifest.
 pub fn manifest(d: &mut Dice, modules: u64, topics: &[Vec<u8>]) -> Vec<u8> {
-    let mut text = format!("modules\t{modules}\n").into_bytes();
+    let mut text = format!("modules\t{modules}\n{}", d.pick(&CHARGES)).into_bytes();
     for _ in 0..d.below(12) {
         text.extend(grant(d, modules, topics));
     }
@@ -84,20 +110,51 @@ pub fn grant(d: &mut Dice, modules: u64, topics: &[Vec<u8>]) -> Vec<u8> {
     [head.as_bytes(), topic, b"\n"].concat()
 }
 
+/// Where the number of a good manifest's charge line stands, if it has one.
+pub fn charge_at(manifest: &[u8]) -> Option<u64> {
+    const HEAD: &[u8] = b"\ncharge\t";
+    let at = manifest.windows(HEAD.len()).position(|w| w == HEAD)?;
+    Some((at + HEAD.len()) as u64)
+}
+
+/// A good manifest made bad by a charge line: of another form, in another place, or by a second one.
+pub fn odd_charge(d: &mut Dice, good: &[u8]) -> Vec<u8> {
+    let named = |line: &&[u8]| line.starts_with(b"charge\t");
+    let mut lines: Vec<&[u8]> = good.split_inclusive(|b| *b == b'\n').filter(|line| !named(line)).collect();
+    // so that there is a grant to stand behind
+    lines.push(b"grant\t1\tin\ta\n");
+    let end = lines.len();
+    let places = match d.below(8) {
+        0 => vec![0],
+        1 => vec![2],
+        2 => vec![end],
+        3 => vec![1, 2],
+        4 => vec![1, end + 1],
+        _ => {
+            lines.insert(1, d.pick(&BAD_CHARGES).as_bytes());
+            vec![]
+        }
+    };
+    for place in places {
+        lines.insert(place, d.pick(&CHARGES[1..]).as_bytes());
+    }
+    lines.concat()
+}
+
 /// A manifest with one thing about it that may be wrong.
 pub fn odd_manifest(d: &mut Dice, good: &[u8]) -> Vec<u8> {
     let mut text = good.to_vec();
     let at = d.index(text.len());
-    match d.below(10) {
+    match d.below(12) {
         0 => text.truncate(at),
         1 => text[at] = d.byte(),
         2 => text.insert(at, *d.pick(b"\t\n 0 1\r\x1f+~\x7f")),
         3 => drop(text.remove(at)),
         4 => text.extend(b"grant\t17\tin\ta\n"),
         5 => {
-            let lines = text.iter().filter(|b| **b == b'\n').count() - 1;
+            let grants = text.split(|b| *b == b'\n').filter(|line| line.starts_with(b"grant")).count();
             let until = 63 + d.index(3);
-            for _ in lines..until {
+            for _ in grants..until {
                 text.extend(b"grant\t1\tin\ta\n");
             }
         }
@@ -130,6 +187,7 @@ pub fn odd_manifest(d: &mut Dice, good: &[u8]) -> Vec<u8> {
             let topic = if d.one_in(2) { d.pick(&old_topics()).to_vec() } else { edge_topic(d) };
             text.extend([b"grant\t1\tin\t", &topic[..], b"\n"].concat());
         }
+        9 | 10 => text = odd_charge(d, good),
         _ => {
             // full to the last byte, or one more
             let topic = vec![b'w'; 1_000];
@@ -214,6 +272,26 @@ mod tests {
         for modules in 1..=16 {
             assert!(Manifest::parse(&manifest(d, modules, &topics())).is_some());
         }
+    }
+
+    /// Each bad form behind line one, and a good one in each bad place.
+    #[test]
+    fn odd_charges_are_bad_and_each_comes_up() {
+        let d = &mut Dice::new(1);
+        let grant = "grant\t1\tin\ta\n";
+        for charge in CHARGES {
+            let good = format!("modules\t1\n{charge}{grant}").into_bytes();
+            let met: HashSet<Vec<u8>> = (0..2_000).map(|_| odd_charge(d, &good)).collect();
+            assert!(met.iter().all(|text| Manifest::parse(text).is_none()));
+            // one line at each of 3 places, two at each of 2
+            assert_eq!(met.len(), BAD_CHARGES.len() + 3 * 2 + 2 * 4);
+        }
+    }
+
+    #[test]
+    fn the_number_of_a_charge_line_is_found() {
+        assert_eq!(charge_at(b"modules\t16\ngrant\t1\tin\tcharge\n"), None);
+        assert_eq!(charge_at(b"modules\t16\ncharge\t2\n"), Some(18));
     }
 
     /// 126, 127, 128 alone and C2 80, each at each of 17 places.

@@ -1,5 +1,5 @@
 //! The model and the archive side by side: one call goes to both, and everything is compared.
-use super::{del, view};
+use super::{charge, del, view};
 use crate::lent::{self, Buffers, Caller, Fate, Place};
 use crate::model::{self, Lent, State};
 use crate::raw;
@@ -43,7 +43,7 @@ pub struct Difference(pub String);
 
 pub type Agreed<T> = Result<T, Difference>;
 
-/// How often each operation gave each answer; and among these, how often byte 127 had to do with it.
+/// How often each operation gave each answer; and among these, how often byte 127 or a charge rule had to do with it.
 pub type Tally = BTreeMap<(&'static str, String), u64>;
 
 pub struct Twin {
@@ -55,6 +55,7 @@ pub struct Twin {
     buffers: Buffers,
     pub calls: u64,
     pub tally: Tally,
+    charged: charge::Charged,
     /// print every call
     pub aloud: bool,
 }
@@ -70,6 +71,7 @@ impl Twin {
             buffers,
             calls: 0,
             tally: Tally::new(),
+            charged: Default::default(),
             aloud: false,
         }
     }
@@ -116,13 +118,15 @@ impl Twin {
                 println!("       from a state with {}", fields(&plain, &before));
             }
         }
-        let cursor = del::cursor(&call, &self.state, &self.lent);
+        let (was, cursor) = (self.state, del::cursor(&call, &self.state, &self.lent));
         let models = models(&mut self.state, &mut self.lent, &call);
         let (ours, state) = self.ours(&call, before);
         self.calls += 1;
-        *self.tally.entry((name(&call), short(&models))).or_insert(0) += 1;
-        if let Some(met) = del::met(&call, &models, cursor, &self.state, &self.lent) {
-            *self.tally.entry((name(&call), met.into())).or_insert(0) += 1;
+        let del = del::met(&call, &models, cursor, &self.state, &self.lent);
+        let charge = self.charged.met(&call, &models, &was, &self.state, &self.lent);
+        let met = del.into_iter().chain(charge).map(String::from);
+        for what in std::iter::once(short(&models)).chain(met) {
+            *self.tally.entry((name(&call), what)).or_insert(0) += 1;
         }
         if self.aloud {
             println!("       {models:?}");

@@ -239,6 +239,60 @@ mod tests {
         assert_eq!(archive.mount(&b, 304).code, 0);
     }
 
+    /// A raw write of "verse" to loop/take, a record of 152 bytes.
+    fn write(archive: &Here, state: State, b: &mut Buffers) -> raw::Answer {
+        let mut memory = [0; 128];
+        memory[64..73].copy_from_slice(b"loop/take");
+        memory[80..85].copy_from_slice(b"verse");
+        for (at, word) in [(8, 64), (16, 9), (24, 80), (32, 5), (40, 1_u64)] {
+            memory[at..at + 8].copy_from_slice(&word.to_le_bytes());
+        }
+        archive.write(state, &memory, b, 8)
+    }
+
+    /// A weave with so many units under a manifest with a charge line, and where its number stands.
+    fn charging(archive: &Here, units: u8) -> (Buffers, State, usize) {
+        let mut b = buffers();
+        b.manifest.splice(10..10, *b"charge\t1\n");
+        let mut args = weave_args();
+        args[24] = units;
+        let state = archive.begin(archive.mount(&b, 0).state, &mut b, &args).state;
+        (b, state, 17)
+    }
+
+    /// The rule is that of the manifest as it is lent. A write costs 20 units under 1, 7 under 2; 6 are left over.
+    #[test]
+    fn a_charge_rule_changes_under_way() {
+        let archive = Here::default();
+        let (mut b, mut state, number) = charging(&archive, 20 + 7 + 20 + 6);
+        for (rule, units) in [(b'1', 20), (b'2', 27), (b'1', 47)] {
+            b.manifest[number] = rule;
+            let a = write(&archive, state, &mut b);
+            assert_eq!((a.code, a.state.units), (0, units));
+            state = a.state;
+        }
+        for rule in [b'1', b'2'] {
+            b.manifest[number] = rule;
+            let a = write(&archive, state, &mut b);
+            assert_eq!((a.code, a.state.units, a.state.spoiled), (-6, 47, -6));
+        }
+    }
+
+    /// Where the number is no rule every call is refused, the return too; where it is one again the box goes on.
+    #[test]
+    fn a_charge_that_is_no_rule_is_refused_under_way() {
+        let archive = Here::default();
+        let (mut b, state, number) = charging(&archive, 20);
+        for other in [b'0', b'3', b' ', b'\n'] {
+            b.manifest[number] = other;
+            let (a, r) = (write(&archive, state, &mut b), archive.module_return(state, &mut b, 0));
+            assert_eq!((a.code, a.state, r.outcome.code, r.state), (-5, state, -5, state), "{other}");
+        }
+        b.manifest[number] = b'1';
+        let a = write(&archive, state, &mut b);
+        assert_eq!(fate(archive.module_return(a.state, &mut b, 0).outcome), Fate::Committed { events: 1, bytes: 152 });
+    }
+
     #[test]
     fn the_archive_has_the_state_of_the_header() {
         assert_eq!(Here::default().state_size(), size_of::<State>() as u64);

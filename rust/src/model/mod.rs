@@ -6,6 +6,7 @@
 pub mod bytes;
 pub mod calls;
 pub mod chain;
+pub mod charge;
 pub mod event;
 pub mod ledger;
 pub mod manifest;

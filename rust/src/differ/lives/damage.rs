@@ -119,6 +119,7 @@ pub fn manifest(d: &mut Dice, twin: &mut Twin) -> Agreed<()> {
         twin.call(Call::Begin { args: weave_args(100_000) })?;
         for _ in 0..15 {
             under_way(d, twin, &h, &good)?;
+            odd_charge(d, twin, &h, &good)?;
         }
     }
     Ok(())
@@ -126,13 +127,33 @@ pub fn manifest(d: &mut Dice, twin: &mut Twin) -> Agreed<()> {
 
 /// A call while the manifest has another byte, under the same length.
 fn under_way(d: &mut Dice, twin: &mut Twin, h: &Habits, good: &[u8]) -> Agreed<()> {
-    let at = d.below(good.len() as u64);
-    let byte = if d.one_in(2) { d.byte() } else { *d.pick(b"123456789\t\nin~\x7f") };
+    let (at, byte) = other_byte(d, good);
     twin.poke(Buffer::Manifest, at, &[byte]);
     let call = any_call(d, twin, h);
     twin.call(call)?;
     twin.poke(Buffer::Manifest, 0, good);
-    let call = any_call(d, twin, h);
-    twin.call(call)?;
+    step(d, twin, h)?;
+    Ok(())
+}
+
+/// Which byte is to stand where. One in three names another charge, or none that there is.
+fn other_byte(d: &mut Dice, good: &[u8]) -> (u64, u8) {
+    if let (Some(at), true) = (stock::charge_at(good), d.one_in(3)) {
+        return (at, *d.pick(b"1230"));
+    }
+    let at = d.below(good.len() as u64);
+    let byte = if d.one_in(2) { d.byte() } else { *d.pick(b"123456789\t\nin~\x7f") };
+    (at, byte)
+}
+
+/// A call while the manifest is bad for a charge line. The state is told its length, so that nothing else is wrong.
+fn odd_charge(d: &mut Dice, twin: &mut Twin, h: &Habits, good: &[u8]) -> Agreed<()> {
+    let before = twin.state;
+    let odd = stock::odd_charge(d, good);
+    twin.state.lengths.manifest = odd.len() as u64;
+    twin.lend(Buffer::Manifest, odd);
+    step(d, twin, h)?;
+    twin.lend(Buffer::Manifest, good.to_vec());
+    twin.state = before;
     Ok(())
 }
