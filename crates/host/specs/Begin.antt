@@ -9,6 +9,7 @@ use Rattle.le.specs.Splice.{zeros}
 use Rattle.weave.specs.declared.Code.{Code}
 use Rattle.weave.specs.declared.Code.the-variants.{Denied, NotNow, Bad}
 use Rattle.weave.specs.Codes.{isFine, need, firstOf}
+use Rattle.weave.specs.Findings.{plain}
 use Rattle.takes.specs.Begun.{begun}
 use Rattle.host.specs.declared.Host.{Host}
 use Rattle.host.specs.declared.Answer.{Answer}
@@ -24,7 +25,7 @@ beginCheck l h args =
     ∷ [])
 
 unfoldable pub beginAnswer : Lent → Host → List ℕ → Answer
-beginAnswer l h args = settle h (beginCheck l h args) 0 (withWeave h (begun args))
+beginAnswer l h args = settle h (plain (beginCheck l h args)) 0 (withWeave h (begun args))
 
 -- "Staging becomes all 0"
 unfoldable pub beginStaging : Lent → Host → List ℕ → List ℕ

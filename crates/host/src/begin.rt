@@ -25,6 +25,6 @@ impl Host {
         let check = one.then(two.then(three.then(four)));
         let next = self.with_weave(begun(args));
         clear_if(check.fine(), staging);
-        self.settle(check, 0, next)
+        self.settle(check.plain(), 0, next)
     }
 }

@@ -27,10 +27,11 @@ pub struct Entry {
     pub grants: Manifest,
 }
 
-// What an operation answers: Fine and a number, or the code it was refused with; and the next state.
+// What an operation answers: Fine and a number, or the code it was refused with and, with -5 from a module call, the field that failed; and the next state.
 pub struct Answer {
     pub code: Code,
     pub value: u64,
+    pub field: u64,
     pub host: Host,
 }
 

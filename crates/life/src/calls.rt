@@ -57,6 +57,7 @@ pub(crate) fn by_module(
     let a = answered(h, k, memory, staging, card, text, at);
     let c = a.code;
     say::answer(c, a.value);
+    say::field(c.bad(), a.field);
     if (k == 2) | (k == 4) {
         pages::events(memory, out, a.value as usize);
     }
@@ -76,6 +77,7 @@ pub(crate) fn ingress(
     let a = writes::stage::ingress(h, staging, card, text, topic, payload);
     let c = a.code;
     say::answer(c, a.value);
+    say::field(false, a.field);
     a.host
 }
 
@@ -105,6 +107,7 @@ pub(crate) fn begin(h: Host, l: &[u8], staging: &mut [u8], card: &[u8], text: &[
     let a = h.begin(staging, card, text, le::front(&args, size));
     let c = a.code;
     say::answer(c, a.value);
+    say::field(false, a.field);
     a.host
 }
 

@@ -35,3 +35,11 @@ pub(crate) fn answer(c: Code, n: u64) {
     word(b" -");
     io::print_decimal(STDOUT_FILENO, below_0(c));
 }
+
+// The field that comes with -5 from a module call. Where none may come and one does, it is said too.
+pub(crate) fn field(comes: bool, n: u64) {
+    if comes | (n != 0) {
+        word(b" field");
+        number(n);
+    }
+}

@@ -1,6 +1,5 @@
--- How an answer crosses: 01's number for each code and each fate, the values, the state.
+-- How an answer crosses: 01's number for each code and each fate, the values, the field, the state.
 -- Assumes nothing.
-use Prim.Native.Nat.{ℕ}
 use lib.IntN.{pos}
 use Rattle.weave.specs.Codes.{number}
 use Rattle.host.specs.declared.Answer.{Answer}
@@ -18,9 +17,9 @@ use Rattle.loafheron.specs.Crossing.{stateOf}
 unfoldable pub mountReply : Mounted → MountReply
 mountReply m = record { code = number (m .code); at = m .at; state = stateOf (m .host) }
 
--- "Each operation takes the host's state and hands the next state back"
+-- "Each operation takes the host's state and hands the next state back"; 02, A5: the field as it is
 unfoldable pub reply : Answer → Reply
-reply a = record { code = number (a .code); value = a .value; state = stateOf (a .host) }
+reply a = record { code = number (a .code); value = a .value; field = a .field; state = stateOf (a .host) }
 
 -- "If an answer is an enum, a definition tells you this paper's number and values for each of its cases." "The outcome gives events and bytes."
 unfoldable pub outcomeOf : Fate → Outcome

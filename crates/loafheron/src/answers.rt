@@ -1,4 +1,4 @@
-// How an answer crosses: the number of its code, its value, its state.
+// How an answer crosses: the number of its code, its value, its field, its state.
 ghost use mathlib.Core.Path.{_≡_};
 ghost use Rattle.loafheron.specs.Answers.{mountReply, reply, outcomeOf, returnReply};
 use crate::MountReply;
@@ -35,6 +35,7 @@ pub(crate) fn reply(a: Answer) -> Reply
     Reply {
         code,
         value: a.value,
+        field: a.field,
         state,
     }
 }

@@ -54,11 +54,12 @@ pub struct MountReply {
     pub state: State,
 }
 
-// What any other call answers: 0 and a value, or its code.
+// What any other call answers: 0 and a value, or its code and, with -5 from a module call, the field that failed.
 #[repr(C)]
 pub struct Reply {
     pub code: i64,
     pub value: u64,
+    pub field: u64,
     pub state: State,
 }
 

@@ -15,6 +15,7 @@ use Rattle.weave.specs.declared.Code.the-variants.{Bad}
 use Rattle.weave.specs.declared.Spoiled.{Spoiled}
 use Rattle.weave.specs.declared.Spoiled.the-variants.{Not, Overspent, Panicked}
 use Rattle.weave.specs.Codes.{isFine, need}
+use Rattle.weave.specs.Findings.{isClear}
 use Rattle.weave.specs.Args.{readArgs, nextArgs}
 use Rattle.weave.proofs.CodeLaws.{need-test}
 use Rattle.host.specs.declared.Host.{Host}
@@ -111,12 +112,15 @@ module _ (w : World) where
                 (
                   b .payload,
                   (
-                    b .granted,
+                    b .value-len,
                     (
-                      rw (b .value),
+                      b .granted,
                       (
                         rw (b .value),
-                        (or-else (isPanic m a) _ (b .room), (or-else (isPanic m a) _ (λ c. le-leb _ (h .weave .resmax) (b .budget c)), tt)),
+                        (
+                          rw (b .value),
+                          (or-else (isPanic m a) _ (b .room), (or-else (isPanic m a) _ (λ c. le-leb _ (h .weave .resmax) (b .budget c)), tt)),
+                        ),
                       ),
                     ),
                   ),
@@ -139,7 +143,7 @@ module _ (w : World) where
     )
 
     -- a page: what is found once all is sound
-    pub next-page : isFine (nextSound l h m a) ≡ true → nextPage l h m a ≡ pageOf (nextArgs m a .out .len) (nextList l h (nextArgs m a .handle))
+    pub next-page : isClear (nextSound l h m a) ≡ true → nextPage l h m a ≡ pageOf (nextArgs m a .out .len) (nextList l h (nextArgs m a .handle))
     unfolding nextPage
     next-page s = rw s
 
@@ -149,7 +153,7 @@ module _ (w : World) where
       λ b. accepted-exactly w (Next m a) .1 (through (nextAsks w m a) (b .gated) (search le-leb)),
     )
 
-    pub read-page : isFine (readSound l h m a) ≡ true → readPage l h m a ≡ pageOf (readArgs m a .out .len) (readList l h m a)
+    pub read-page : isClear (readSound l h m a) ≡ true → readPage l h m a ≡ pageOf (readArgs m a .out .len) (readList l h m a)
     unfolding readPage
     read-page s = rw s
 

@@ -11,7 +11,9 @@ use Rattle.manifest.specs.Saying.{modulesSaid, manifestOf}
 use Rattle.manifest.proofs.SayingLaws.{sized}
 use Rattle.weave.specs.declared.Code.{Code}
 use Rattle.weave.specs.declared.Code.the-variants.{Fine, Bad}
+use Rattle.weave.specs.declared.Finding.{Finding}
 use Rattle.weave.specs.Codes.{isFine, need}
+use Rattle.weave.specs.Findings.{isClear}
 use Rattle.weave.specs.Checks.{sameLengths, numbersFine, turnFine, lentFine}
 use Rattle.weave.proofs.CodeLaws.{need-test}
 use Rattle.host.specs.declared.Host.{Host}
@@ -20,13 +22,14 @@ use Rattle.promises.specs.Accepted.{Lawful}
 
 -- ---- check 1, both ways
 
-or-right : (a b : Bool) → not a || b ≡ true → a ≡ true → b ≡ true
+-- where a holds, b does
+pub or-right : (a b : Bool) → not a || b ≡ true → a ≡ true → b ≡ true
 or-right true b e q = e
 or-right false b e q = absurd (true≢false (sym q))
 
-or-both : (a b c : Bool) → (a ≡ true → b ≡ true) → (a ≡ true → c ≡ true) → not a || (b && c) ≡ true
-or-both true b c f g = and-both b c (f refl) (g refl)
-or-both false b c f g = refl
+pub or-if : (a b : Bool) → (a ≡ true → b ≡ true) → not a || b ≡ true
+or-if true b f = f refl
+or-if false b f = refl
 
 pub lawful : (l : Lent) (h : Host) → isFine (lentCheck l h) ≡ true → Lawful l h
 unfolding lentCheck lentFine lengthsOf sameLengths numbersFine turnFine
@@ -49,7 +52,7 @@ fine-lawful l h a =
     let turn = h .weave .turn in
     let most = modulesSaid (manifestOf (l .text)) in
     let t : not (h .weave .running) || (leb 1 turn && leb turn most) ≡ true =
-    or-both (h .weave .running) (leb 1 turn) (leb turn most) (λ r. le-leb 1 turn (a .turn-least r)) (λ r. le-leb turn most (a .turn-most r)) in
+    or-if (h .weave .running) _ (λ r. and-both (leb 1 turn) (leb turn most) (le-leb 1 turn (a .turn-least r)) (le-leb turn most (a .turn-most r))) in
     fine-need _ Bad (search (and-both, eq-eqb, le-leb) depth 12)
 
 -- "Modules 1 to 16"
@@ -58,10 +61,10 @@ turn-16 l h a r = omega (arith, a .turn-most r, sized (l .text) .most)
 
 -- ---- what was not refused was found no fault with
 
-pub settle-ok : (h : Host) (c : Code) (v : ℕ) (next : Host) → not (isFine (settle h c v next .code)) ≡ false → isFine c ≡ true
+pub settle-ok : (h : Host) (f : Finding) (v : ℕ) (next : Host) → not (isFine (settle h f v next .code)) ≡ false → isClear f ≡ true
 unfolding settle turnedAway
-settle-ok h c v next e = go (isFine c) refl e
+settle-ok h f v next e = go (isClear f) refl e
   where
-    go : (t : Bool) → isFine c ≡ t → not (isFine ((cond t (record { code = Fine; value = v; host = next }) (turnedAway h c)) .code)) ≡ false → isFine c ≡ true
+    go : (t : Bool) → isClear f ≡ t → not (isFine ((cond t (record { code = Fine; value = v; field = 0; host = next }) (turnedAway h f)) .code)) ≡ false → isClear f ≡ true
     go true q e = q
     go false q e = absurd (true≢false (sym (ap not q) ∙ e))

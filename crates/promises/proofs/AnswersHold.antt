@@ -7,9 +7,9 @@ use Prim.Native.Nat.{ℕ}
 use Rattle.card.specs.Records.{size}
 use Rattle.card.specs.Listing.{fit, pageOf}
 use Rattle.card.proofs.PageLaws.{length-shownFrom}
-use Rattle.weave.specs.declared.Code.{Code}
+use Rattle.weave.specs.declared.Finding.{Finding}
 use Rattle.weave.specs.Codes.{isFine}
-use Rattle.weave.proofs.CodeLaws.{first-left}
+use Rattle.weave.proofs.CodeLaws.{found-left}
 use Rattle.takes.specs.Pages.{pageBytes}
 use Rattle.host.specs.declared.Host.{Host}
 use Rattle.host.specs.Hosts.{settle, withWeave}
@@ -32,9 +32,9 @@ use Rattle.host.specs.declared.Fate.{Fate}
 use Rattle.host.specs.declared.Fate.the-variants.{Refused, Discarded, Running, Committed}
 use Rattle.host.specs.Ending.{fateOf, committed, finished, returnAnswer}
 
-value-is : (h : Host) (c : Code) (v : ℕ) (next : Host) → not (isFine (settle h c v next .code)) ≡ false → settle h c v next .value ≡ v
+value-is : (h : Host) (f : Finding) (v : ℕ) (next : Host) → not (isFine (settle h f v next .code)) ≡ false → settle h f v next .value ≡ v
 unfolding settle
-value-is h c v next e = rw (settle-ok h c v next e)
+value-is h f v next e = rw (settle-ok h f v next e)
 
 -- a page's bytes are its records'
 pub page-bytes : (cap : ℕ) (rs : List (List ℕ)) → pageBytes (pageOf cap rs) ≡ size (fit cap rs)
@@ -48,11 +48,11 @@ answers-are w (Ingress topic payload) e = value-is (w .host) _ 0 _ e
 answers-are w (Write m a) e = value-is (w .host) _ 0 _ e
 answers-are w (Read m a) e =
     value-is (w .host) (readCheck (w .lent) (w .host) m a) _ _ e
-    ∙ rw (read-page w m a (first-left (readSound (w .lent) (w .host) m a) _ (settle-ok (w .host) (readCheck (w .lent) (w .host) m a) _ _ e))) (page-bytes _ _)
+    ∙ rw (read-page w m a (found-left (readSound (w .lent) (w .host) m a) _ (settle-ok (w .host) (readCheck (w .lent) (w .host) m a) _ _ e))) (page-bytes _ _)
 answers-are w (Open m a) e = value-is (w .host) _ _ _ e ∙ handle-new (w .host .weave) (open-exactly w m a .0 e .room)
 answers-are w (Next m a) e =
     value-is (w .host) (nextCheck (w .lent) (w .host) m a) _ _ e
-    ∙ rw (next-page w m a (first-left (nextSound (w .lent) (w .host) m a) _ (settle-ok (w .host) (nextCheck (w .lent) (w .host) m a) _ _ e))) (page-bytes _ _)
+    ∙ rw (next-page w m a (found-left (nextSound (w .lent) (w .host) m a) _ (settle-ok (w .host) (nextCheck (w .lent) (w .host) m a) _ _ e))) (page-bytes _ _)
 answers-are w (Close m a) e = value-is (w .host) _ 0 _ e
 answers-are w (Return code) e = refl
 answers-are w (LookUp id) e = refl
@@ -60,12 +60,12 @@ answers-are w (LookUp id) e = refl
 -- ---- ingress
 
 -- the state that an accepted call leaves
-host-is : (h : Host) (c : Code) (v : ℕ) (next : Host) → not (isFine (settle h c v next .code)) ≡ false → settle h c v next .host ≡ next
+host-is : (h : Host) (f : Finding) (v : ℕ) (next : Host) → not (isFine (settle h f v next .code)) ≡ false → settle h f v next .host ≡ next
 unfolding settle
-host-is h c v next e = rw (settle-ok h c v next e)
+host-is h f v next e = rw (settle-ok h f v next e)
 
-late-of : (h : Host) (c : Code) (v : ℕ) (next : Host) → not (isFine (settle h c v next .code)) ≡ false → settle h c v next .host .weave .late ≡ next .weave .late
-late-of h c v next e = ap (λ (x : Host). x .weave .late) (host-is h c v next e)
+late-of : (h : Host) (f : Finding) (v : ℕ) (next : Host) → not (isFine (settle h f v next .code)) ≡ false → settle h f v next .host .weave .late ≡ next .weave .late
+late-of h f v next e = ap (λ (x : Host). x .weave .late) (host-is h f v next e)
 
 -- a write, panic or not
 written-late : (h : Host) (panic : Bool) (cost t d n : ℕ) → written h panic cost t d n .weave .late ≡ true

@@ -1,15 +1,14 @@
--- The code of a call is that of the first check that fails, in 01's order; a call is accepted exactly when none does.
+-- What a call finds, its code and its field, is that of the first check that fails, in 01's order; a call is accepted exactly when none does.
 -- Assumes nothing.
 use mathlib.Core.Path.{_≡_, refl, sym, ap, _∙_}
 use mathlib.Core.Bool.{Bool, true, false, not, _&&_, _||_, cond, true≢false}
 use mathlib.Core.List.{List, [], _∷_, _++_}
 use mathlib.Core.Logic.{_↔_}
 use Prim.Native.Nat.{ℕ, _+_}
-use borrow.Author.Tests.{not-true, not-false}
+use borrow.Author.Tests.{not-false}
 use lib.Dec.{leb}
 use lib.IntN.{ℤ}
 use lib.ListN.{length}
-use Rattle.le.proofs.TestLaws.{and-left, and-right}
 use Rattle.value.specs.declared.Fault.{Fault}
 use Rattle.value.specs.declared.Fault.the-variants.{Fine as NoFault, Outside, Unfit}
 use Rattle.card.specs.Pick.{All}
@@ -17,27 +16,28 @@ use Rattle.card.specs.declared.Page.{Page}
 use Rattle.card.specs.declared.Page.the-variants.{End, Short, Bytes}
 use Rattle.weave.specs.declared.Code.{Code}
 use Rattle.weave.specs.declared.Code.the-variants.{Fine, Denied, NotNow, Unsound, NoRoom, Bad, Budget, BadValue}
+use Rattle.weave.specs.declared.Finding.{Finding}
 use Rattle.weave.specs.declared.Spoiled.{Spoiled}
 use Rattle.weave.specs.declared.Spoiled.the-variants.{Not, Overspent, Panicked}
-use Rattle.weave.specs.Codes.{isFine, need, first, reasonFor}
+use Rattle.weave.specs.Codes.{isFine, need, firstBy, reasonFor}
+use Rattle.weave.specs.Findings.{plain, beforeRecord, isClear, firstFound}
 use Rattle.weave.specs.Args.{writeArgs}
 use Rattle.weave.specs.Checks.{runningCheck, budgetCheck}
-use Rattle.takes.specs.Pages.{pageCode, pageCharge}
+use Rattle.takes.specs.Pages.{pageCode, pageCheck}
 use Rattle.takes.specs.Payloads.{payloadChecked, faultCode}
 use Rattle.host.specs.declared.Host.{Host}
 use Rattle.host.specs.declared.Answer.{Answer}
-use Rattle.host.specs.Hosts.{Lent, lentCheck, gateCheck, turnedAway, settle}
+use Rattle.host.specs.Hosts.{Lent, lentCheck, gateCheck, gateFound, turnedAway, settle}
 use Rattle.host.specs.Begin.{beginCheck, beginAnswer}
 use Rattle.writes.specs.Stage.{roomFine, writeCharge, ingressChecks, ingressCheck, ingressAnswer, isPanic, dataLen, stageCheck, writeChecks, writeCheck, writeAnswer}
 use Rattle.reads.specs.Reading.{readChecks, readSound, readPage, readCheck, readAnswer}
 use Rattle.host.specs.Cursors.{openCheck, openAnswer, closeCheck, closeAnswer}
 use Rattle.reads.specs.Paging.{nextChecks, nextSound, nextPage, nextCheck, nextAnswer}
 use Rattle.host.specs.Ending.{returnCheck, returnAnswer}
-use Rattle.promises.specs.Box.{World, Op, Begin, Ingress, Write, Read, Open, Next, Close, Return, LookUp, step, isRefused, codeOf}
-use Rattle.promises.specs.Checks.{Check, Passed, isOverspent, isPanicked, isOutside, isUnfit, check, failing, lentAsked, gate, paged, writeAsks, readFirst, openAsks, nextFirst, closeAsks, checksOf}
+use Rattle.promises.specs.Box.{World, Op, Begin, Ingress, Write, Read, Open, Next, Close, Return, LookUp, answered, step, isRefused, codeOf}
+use Rattle.promises.specs.Checks.{Check, Passed, isOverspent, isPanicked, isOutside, isUnfit, check, checkAt, failing, failingField, lentAsked, gate, paged, writeAsks, readFirst, openAsks, nextFirst, closeAsks, checksOf}
+use Rattle.promises.proofs.CheckLaws.{proper, none-of, all-passed, Comes, joined, last, then, Finds, finds-code, finds-field, followed, plainly, named, field-then, plain-last, plain-then}
 use Rattle.promises.proofs.OutcomeHolds.{Fated, turned-away, has-reason, turns-on, ends-badly, ends-well, fated}
-
--- ---- lists of checks, and the codes that they come to
 
 pub fine-is : (c : Code) → isFine c ≡ true → c ≡ Fine
 fine-is Fine e = refl
@@ -49,45 +49,12 @@ fine-is Bad e = absurd (true≢false (sym e))
 fine-is Budget e = absurd (true≢false (sym e))
 fine-is BadValue e = absurd (true≢false (sym e))
 
--- none of the codes is Fine
-abbrev pub proper : List Check → Bool
-proper [] = true
-proper (c ∷ cs) = not (isFine (c .code)) && proper cs
-
--- the code that a list of checks comes to
-pub record Comes (c : Code) (cs : List Check) : Type 0 where
-  pub is : c ≡ failing cs
-
-last : (t : Bool) (c : Code) → Comes (need t c) (check t c ∷ [])
-unfolding need
-last t c = record { is = refl }
-
--- one check, then the others
-then : (t : Bool) (c d : Code) (ds : List Check) → isFine c ≡ false → Comes d ds → Comes (first (need t c) d) (check t c ∷ ds)
-unfolding first need
-then true c d ds f e = record { is = e .is }
-then false c d ds f e = record { is = rw f }
-
--- several, then the others
-joined : (cs ds : List Check) (c d : Code) → proper cs ≡ true → Comes c cs → Comes d ds → Comes (first c d) (cs ++ ds)
-unfolding first
-joined cs ds c d p e q = record { is = rw (e .is, q .is) (go cs p) }
-  where
-    at : (t : Bool) (k : Code) (ks : List Check) → cond (isFine (failing ks)) (failing ds) (failing ks) ≡ failing (ks ++ ds) → not (isFine k) ≡ true
-        → cond (isFine (cond t (failing ks) k)) (failing ds) (cond t (failing ks) k) ≡ cond t (failing (ks ++ ds)) k
-    at true k ks ih n = ih
-    at false k ks ih n = rw (not-true (isFine k) n)
-
-    go : (cs : List Check) → proper cs ≡ true → cond (isFine (failing cs)) (failing ds) (failing cs) ≡ failing (cs ++ ds)
-    go [] p = refl
-    go (k ∷ ks) p = at (k .asks) (k .code) ks (go ks (and-right (not (isFine (k .code))) _ p)) (and-left (not (isFine (k .code))) _ p)
-
 -- what is asked when the checks before it are passed
-under : (c : Code) (f : Page → Code) (p : Page) → first c (f (cond (isFine c) p End)) ≡ first c (f p)
-unfolding first
-under c f p = go (isFine c) refl
+under : (c : Finding) (f : Page → Finding) (p : Page) → firstFound c (f (cond (isClear c) p End)) ≡ firstFound c (f p)
+unfolding firstBy
+under c f p = go (isClear c) refl
   where
-    go : (t : Bool) → isFine c ≡ t → cond t (f (cond t p End)) c ≡ cond t (f p) c
+    go : (t : Bool) → isClear c ≡ t → cond t (f (cond t p End)) c ≡ cond t (f p) c
     go true q = refl
     go false q = refl
 
@@ -98,7 +65,7 @@ spoiled-code Not = record { is = refl }
 spoiled-code Overspent = record { is = refl }
 spoiled-code Panicked = record { is = refl }
 
-fault-code : (f : Fault) → Comes (faultCode f) (check (not (isOutside f)) Bad ∷ check (not (isUnfit f)) BadValue ∷ [])
+fault-code : (f : Fault) → Comes (faultCode f) (checkAt (not (isOutside f)) 16 ∷ check (not (isUnfit f)) BadValue ∷ [])
 fault-code NoFault = record { is = refl }
 fault-code Outside = record { is = refl }
 fault-code Unfit = record { is = refl }
@@ -126,16 +93,22 @@ module _ (w : World) where
   abbrev h : Host
   h = w .host
 
-  pub begin-code : (args : List ℕ) → Comes (beginCheck l h args) (checksOf w (Begin args))
+  begin-code : (args : List ℕ) → Comes (beginCheck l h args) (checksOf w (Begin args))
   unfolding beginCheck lentCheck
   begin-code args = then _ Bad _ _ refl (then _ NotNow _ _ refl (then _ Denied _ _ refl (last _ Bad)))
 
-  pub ingress-code : (topic payload : List ℕ) → Comes (ingressCheck l h topic payload) (checksOf w (Ingress topic payload))
+  pub begin-finds : (args : List ℕ) → Finds (plain (beginCheck l h args)) (checksOf w (Begin args))
+  begin-finds args = plainly (beginCheck l h args) (checksOf w (Begin args)) (begin-code args) refl
+
+  ingress-code : (topic payload : List ℕ) → Comes (ingressCheck l h topic payload) (checksOf w (Ingress topic payload))
   unfolding ingressChecks lentCheck
   ingress-code topic payload =
       then _ Bad _ _ refl
       (joined (check (h .weave .running) NotNow ∷ check (not (h .weave .late)) NotNow ∷ []) _ _ _ refl
       (two (h .weave .running) (not (h .weave .late)) NotNow) (then _ Bad _ _ refl (last _ NoRoom)))
+
+  pub ingress-finds : (topic payload : List ℕ) → Finds (plain (ingressCheck l h topic payload)) (checksOf w (Ingress topic payload))
+  ingress-finds topic payload = plainly (ingressCheck l h topic payload) (checksOf w (Ingress topic payload)) (ingress-code topic payload) refl
 
   module _ (m : List ℕ) (a : ℕ) where
     gate-code : Comes (gateCheck l h (length m)) (gate w m)
@@ -143,47 +116,47 @@ module _ (w : World) where
     gate-code = then _ Bad _ _ refl (then _ Bad _ _ refl (then _ NotNow _ _ refl (spoiled-code (h .weave .spoiled .0))))
 
     -- a module call: the gate, then what else it asks
-    gated : (c : Code) (cs : List Check) → Comes c cs → Comes (first (gateCheck l h (length m)) c) (gate w m ++ cs)
-    gated c cs = joined (gate w m) cs (gateCheck l h (length m)) c refl gate-code
+    gated : (f : Finding) (cs : List Check) → Finds f cs → Finds (firstFound (gateFound l h (length m)) f) (gate w m ++ cs)
+    gated f cs = followed (gate w m) cs (gateFound l h (length m)) f refl (named beforeRecord (gateCheck l h (length m)) (gate w m) gate-code refl)
 
-    pub write-code : Comes (writeCheck (w .charge) l h m a) (checksOf w (Write m a))
+    pub write-finds : Finds (writeCheck (w .charge) l h m a) (checksOf w (Write m a))
     unfolding writeChecks
-    write-code =
+    write-finds =
         gated _ (writeAsks w m a)
-        (then _ Bad _ _ refl (then _ Bad _ _ refl (then _ Bad _ _ refl (then _ Bad _ _ refl (then _ Denied _ _ refl
-        (joined (check _ Bad ∷ check _ BadValue ∷ []) _ _ _ refl (fault-code (payloadChecked m (writeArgs m a) .fault))
-        (stage-code h (isPanic m a) (writeCharge (w .charge) m a) (writeArgs m a .topic .len) (dataLen m a) (length (l .staging)))))))))
+        (field-then _ 255 _ _ (field-then _ 0 _ _ (field-then _ 32 _ _ (field-then _ 16 _ _ (field-then _ 24 _ _ (plain-then _ Denied _ _ refl
+        (followed (checkAt _ 16 ∷ check _ BadValue ∷ []) _ _ _ refl (named 16 _ _ (fault-code (payloadChecked m (writeArgs m a) .fault)) refl)
+        (plainly _ _ (stage-code h (isPanic m a) (writeCharge (w .charge) m a) (writeArgs m a .topic .len) (dataLen m a) (length (l .staging))) refl))))))))
 
-    pub open-code : Comes (openCheck l h m a) (checksOf w (Open m a))
+    pub open-finds : Finds (openCheck l h m a) (checksOf w (Open m a))
     unfolding openCheck budgetCheck
-    open-code = gated _ (openAsks w m a) (then _ Bad _ _ refl (then _ Bad _ _ refl (then _ Bad _ _ refl (then _ NoRoom _ _ refl (last _ Budget)))))
+    open-finds = gated _ (openAsks w m a) (field-then _ 255 _ _ (field-then _ 0 _ _ (field-then _ 40 _ _ (plain-then _ NoRoom _ _ refl (plain-last _ Budget)))))
 
-    pub close-code : Comes (closeCheck l h m a) (checksOf w (Close m a))
+    pub close-finds : Finds (closeCheck l h m a) (checksOf w (Close m a))
     unfolding closeCheck budgetCheck
-    close-code = gated _ (closeAsks w m a) (then _ Bad _ _ refl (then _ NotNow _ _ refl (last _ Budget)))
+    close-finds = gated _ (closeAsks w m a) (field-then _ 255 _ _ (plain-then _ NotNow _ _ refl (plain-last _ Budget)))
 
     -- a page is looked for when all before it is passed
-    page-codes : (p : Page) → Comes (first (pageCode p) (budgetCheck (h .weave) (pageCharge p))) (paged w p)
+    page-codes : (p : Page) → Comes (pageCheck (h .weave) p) (paged w p)
     unfolding budgetCheck
     page-codes p = joined (check (isFine (pageCode p)) NoRoom ∷ []) _ _ _ refl (page-code p) (last _ Budget)
 
-    looked-for : (c : Code) (cs : List Check) (p : Page) → proper cs ≡ true → Comes c cs
-        → Comes (first c (first (pageCode (cond (isFine c) p End)) (budgetCheck (h .weave) (pageCharge (cond (isFine c) p End))))) (cs ++ paged w p)
-    looked-for c cs p r e = record {
-      is = under c (λ (q : Page). first (pageCode q) (budgetCheck (h .weave) (pageCharge q))) p ∙ joined cs (paged w p) c _ r e (page-codes p) .is;
+    looked-for : (f : Finding) (cs : List Check) (p : Page) → proper cs ≡ true → Finds f cs
+        → Finds (firstFound f (plain (pageCheck (h .weave) (cond (isClear f) p End)))) (cs ++ paged w p)
+    looked-for f cs p r e = record {
+      is = under f (λ (q : Page). plain (pageCheck (h .weave) q)) p ∙ followed cs (paged w p) f _ r e (plainly _ (paged w p) (page-codes p) refl) .is;
     }
 
-    pub read-code : Comes (readCheck l h m a) (checksOf w (Read m a))
+    pub read-finds : Finds (readCheck l h m a) (checksOf w (Read m a))
     unfolding readCheck readPage readChecks
-    read-code =
+    read-finds =
         looked-for (readSound l h m a) (gate w m ++ readFirst w m a) _ refl
-        (gated _ (readFirst w m a) (then _ Bad _ _ refl (then _ Bad _ _ refl (then _ Bad _ _ refl (then _ Denied _ _ refl (last _ Unsound))))))
+        (gated _ (readFirst w m a) (field-then _ 255 _ _ (field-then _ 0 _ _ (field-then _ 24 _ _ (plain-then _ Denied _ _ refl (plain-last _ Unsound))))))
 
-    pub next-code : Comes (nextCheck l h m a) (checksOf w (Next m a))
+    pub next-finds : Finds (nextCheck l h m a) (checksOf w (Next m a))
     unfolding nextCheck nextPage nextChecks
-    next-code =
+    next-finds =
         looked-for (nextSound l h m a) (gate w m ++ nextFirst w m a) _ refl
-        (gated _ (nextFirst w m a) (then _ Bad _ _ refl (then _ Bad _ _ refl (then _ NotNow _ _ refl (last _ Unsound)))))
+        (gated _ (nextFirst w m a) (field-then _ 255 _ _ (field-then _ 8 _ _ (plain-then _ NotNow _ _ refl (plain-last _ Unsound)))))
 
   pub return-code : Comes (returnCheck l h) (lentAsked w ∷ check (h .weave .running) NotNow ∷ [])
   unfolding returnCheck lentCheck
@@ -191,57 +164,77 @@ module _ (w : World) where
 
 -- ---- what is said
 
-settle-code : (h : Host) (c : Code) (v : ℕ) (next : Host) → settle h c v next .code ≡ c
+settle-code : (h : Host) (f : Finding) (v : ℕ) (next : Host) → settle h f v next .code ≡ f .code
 unfolding settle turnedAway
-settle-code h c v next = go (isFine c) refl
+settle-code h f v next = go (isClear f) refl
   where
-    go : (t : Bool) → isFine c ≡ t → (cond {A = Answer} t (record { code = Fine; value = v; host = next }) (turnedAway h c)) .code ≡ c
-    go true q = sym (fine-is c q)
+    go : (t : Bool) → isClear f ≡ t → (cond {A = Answer} t (record { code = Fine; value = v; field = 0; host = next }) (turnedAway h f)) .code ≡ f .code
+    go true q = sym (fine-is (f .code) q)
     go false q = refl
+
+settle-field : (h : Host) (f : Finding) (v : ℕ) (next : Host) (cs : List Check) → proper cs ≡ true → Finds f cs → settle h f v next .field ≡ failingField cs
+unfolding settle turnedAway
+settle-field h f v next cs p e = go (isClear f) refl
+  where
+    go : (t : Bool) → isClear f ≡ t → (cond {A = Answer} t (record { code = Fine; value = v; field = 0; host = next }) (turnedAway h f)) .field ≡ failingField cs
+    go true q = sym (none-of (λ (c : Check). c .field) 0 cs (all-passed cs p (sym (ap isFine (finds-code f cs e)) ∙ q)))
+    go false q = finds-field f cs e
 
 record Judged (w : World) (o : Op) : Type 0 where
   code : codeOf (step w o .said) ≡ failing (checksOf w o)
+  field : step w o .field ≡ failingField (checksOf w o)
   refusal : isRefused (step w o .said) ≡ not (isFine (codeOf (step w o .said)))
   coded : proper (checksOf w o) ≡ true
 
+-- a call that ends in `settle`
+settled-judged : (w : World) (o : Op) (f : Finding) (v : ℕ) (next : Host) (staging′ memory′ : List ℕ) → step w o ≡ answered w (settle (w .host) f v next) staging′ memory′
+    → proper (checksOf w o) ≡ true → Finds f (checksOf w o) → Judged w o
+settled-judged w o f v next staging′ memory′ is p e = record {
+  code = rw is (settle-code (w .host) f v next ∙ finds-code f _ e);
+  field = rw is (settle-field (w .host) f v next (checksOf w o) p e);
+  refusal = rw is;
+  coded = p;
+}
+
 fate-judged : (w : World) (code : ℤ) → Fated (w .lent) (w .host) code → Judged w (Return code)
 unfolding step returnAnswer
-fate-judged w code (turned-away a q) = record { code = rw q (return-code w .is); refusal = rw (q, a); coded = refl }
-fate-judged w code (has-reason a b q) = record { code = rw q (sym (fine-is _ a) ∙ return-code w .is); refusal = rw q; coded = refl }
-fate-judged w code (turns-on a b c q) = record { code = rw q (sym (fine-is _ a) ∙ return-code w .is); refusal = rw q; coded = refl }
-fate-judged w code (ends-badly a b c d q) = record { code = rw q (sym (fine-is _ a) ∙ return-code w .is); refusal = rw q; coded = refl }
-fate-judged w code (ends-well a b c d q) = record { code = rw q (sym (fine-is _ a) ∙ return-code w .is); refusal = rw q; coded = refl }
+fate-judged w code f = record { code = said f; field = finds-field _ _ (plainly _ _ (return-code w) refl); refusal = refused f; coded = refl }
+  where
+    said : Fated (w .lent) (w .host) code → codeOf (step w (Return code) .said) ≡ failing (checksOf w (Return code))
+    said (turned-away a q) = rw q (return-code w .is)
+    said (has-reason a b q) = rw q (sym (fine-is _ a) ∙ return-code w .is)
+    said (turns-on a b c q) = rw q (sym (fine-is _ a) ∙ return-code w .is)
+    said (ends-badly a b c d q) = rw q (sym (fine-is _ a) ∙ return-code w .is)
+    said (ends-well a b c d q) = rw q (sym (fine-is _ a) ∙ return-code w .is)
+
+    refused : Fated (w .lent) (w .host) code → isRefused (step w (Return code) .said) ≡ not (isFine (codeOf (step w (Return code) .said)))
+    refused (turned-away a q) = rw (q, a)
+    refused (has-reason a b q) = rw q
+    refused (turns-on a b c q) = rw q
+    refused (ends-badly a b c d q) = rw q
+    refused (ends-well a b c d q) = rw q
 
 judged : (w : World) (o : Op) → Judged w o
 unfolding step beginAnswer ingressAnswer writeAnswer readAnswer openAnswer nextAnswer closeAnswer
-judged w (Begin args) = record { code = settle-code (w .host) _ _ _ ∙ begin-code w args .is; refusal = refl; coded = refl }
-judged w (Ingress topic payload) = record { code = settle-code (w .host) _ _ _ ∙ ingress-code w topic payload .is; refusal = refl; coded = refl }
-judged w (Write m a) = record { code = settle-code (w .host) _ _ _ ∙ write-code w m a .is; refusal = refl; coded = refl }
-judged w (Read m a) = record { code = settle-code (w .host) _ _ _ ∙ read-code w m a .is; refusal = refl; coded = refl }
-judged w (Open m a) = record { code = settle-code (w .host) _ _ _ ∙ open-code w m a .is; refusal = refl; coded = refl }
-judged w (Next m a) = record { code = settle-code (w .host) _ _ _ ∙ next-code w m a .is; refusal = refl; coded = refl }
-judged w (Close m a) = record { code = settle-code (w .host) _ _ _ ∙ close-code w m a .is; refusal = refl; coded = refl }
+judged w (Begin args) = settled-judged w (Begin args) _ _ _ _ _ refl refl (begin-finds w args)
+judged w (Ingress topic payload) = settled-judged w (Ingress topic payload) _ _ _ _ _ refl refl (ingress-finds w topic payload)
+judged w (Write m a) = settled-judged w (Write m a) _ _ _ _ _ refl refl (write-finds w m a)
+judged w (Read m a) = settled-judged w (Read m a) _ _ _ _ _ refl refl (read-finds w m a)
+judged w (Open m a) = settled-judged w (Open m a) _ _ _ _ _ refl refl (open-finds w m a)
+judged w (Next m a) = settled-judged w (Next m a) _ _ _ _ _ refl refl (next-finds w m a)
+judged w (Close m a) = settled-judged w (Close m a) _ _ _ _ _ refl refl (close-finds w m a)
 judged w (Return code) = fate-judged w code (fated (w .lent) (w .host) code)
-judged w (LookUp id) = record { code = refl; refusal = refl; coded = refl }
+judged w (LookUp id) = record { code = refl; field = refl; refusal = refl; coded = refl }
 
--- THE PROMISE: the code is that of the first check that fails
+-- THE PROMISE: the code is that of the first check that fails, and so is the field
 pub code-is : (w : World) (o : Op) → codeOf (step w o .said) ≡ failing (checksOf w o)
 code-is w o = judged w o .code
 
-pub all-passed : (cs : List Check) → proper cs ≡ true → isFine (failing cs) ≡ true → All Passed cs
-all-passed [] p e = tt
-all-passed (k ∷ ks) p e = go (k .asks) refl e (all-passed ks (and-right (not (isFine (k .code))) _ p))
-  where
-    go : (t : Bool) → k .asks ≡ t → isFine (cond t (failing ks) (k .code)) ≡ true → (isFine (failing ks) ≡ true → All Passed ks) → All Passed (k ∷ ks)
-    go true q e ih = (q, ih e)
-    go false q e ih = absurd (true≢false (sym e ∙ not-true (isFine (k .code)) (and-left (not (isFine (k .code))) _ p)))
-
-none-failing : (cs : List Check) → All Passed cs → failing cs ≡ Fine
-none-failing [] a = refl
-none-failing (k ∷ ks) a = rw (a .0) (none-failing ks (a .1))
+pub field-is : (w : World) (o : Op) → step w o .field ≡ failingField (checksOf w o)
+field-is w o = judged w o .field
 
 -- .. and a call is accepted exactly when none fails
 pub accepted-exactly : (w : World) (o : Op) → (isRefused (step w o .said) ≡ false) ↔ All Passed (checksOf w o)
 accepted-exactly w o =
     let j = judged w o in
-    (λ e. all-passed (checksOf w o) (j .coded) (rw (← j .code) (not-false _ (sym (j .refusal) ∙ e))), λ a. j .refusal ∙ ap (λ (c : Code). not (isFine c)) (j .code ∙ none-failing (checksOf w o) a))
+    (λ e. all-passed (checksOf w o) (j .coded) (rw (← j .code) (not-false _ (sym (j .refusal) ∙ e))), λ a. j .refusal ∙ ap (λ (c : Code). not (isFine c)) (j .code ∙ none-of (λ (c : Check). c .code) Fine (checksOf w o) a))

@@ -24,6 +24,7 @@ use Rattle.weave.specs.States.{freshWeave, begunWeave, holding}
 use Rattle.weave.specs.Sums.{added}
 use Rattle.weave.proofs.SumLaws.{added-sum}
 use Rattle.takes.specs.Begun.{begun}
+use Rattle.weave.specs.Findings.{plain}
 use Rattle.host.specs.declared.Fate.the-variants.{Committed}
 use Rattle.host.specs.Hosts.{Lent, lentAs, withWeave, settle}
 use Rattle.host.specs.Begin.{beginCheck, beginAnswer, beginStaging}
@@ -77,7 +78,7 @@ module _ (n c : ℕ) (n-least : 65536 ≤ n) (n-most : n ≤ 1048576) (c-least :
 
   q₀ : step w₀ (Begin (zeros 128)) .world ≡ w₁
   unfolding step beginAnswer beginStaging settle
-  q₀ = rw (settle-ok (w₀ .host) (beginCheck (w₀ .lent) (w₀ .host) (zeros 128)) 0 _ e₀)
+  q₀ = rw (settle-ok (w₀ .host) (plain (beginCheck (w₀ .lent) (w₀ .host) (zeros 128))) 0 _ e₀)
 
   at₁ : At l (Begin (zeros 128) ∷ []) w₁ (firstPage l 0)
   at₁ = one-more l fine [] w₀ (firstPage l 0) at₀ (Begin (zeros 128)) no-bytes e₀ w₁ q₀
@@ -99,7 +100,7 @@ module _ (n c : ℕ) (n-least : 65536 ≤ n) (n-most : n ≤ 1048576) (c-least :
 
   q₁ : step w₁ (Ingress (116 ∷ []) []) .world ≡ w₂
   unfolding step ingressAnswer settle
-  q₁ = rw (settle-ok (w₁ .host) (ingressCheck (w₁ .lent) (w₁ .host) (116 ∷ []) []) 0 _ e₁)
+  q₁ = rw (settle-ok (w₁ .host) (plain (ingressCheck (w₁ .lent) (w₁ .host) (116 ∷ []) [])) 0 _ e₁)
 
   abbrev ops : List Op
   ops = Begin (zeros 128) ∷ Ingress (116 ∷ []) [] ∷ []

@@ -34,6 +34,7 @@ module _ (κs : Lfts 4) (a : Dens κs host.Host.begin.Kinds.ps) where
       → step (boxOf (a .0) (lentAs (now (a .1 .0)) (now (a .1 .1 .0)) (now (a .1 .1 .1 .0)))) (Begin (now (a .1 .1 .1 .1 .0)))
       ≡ record {
         said = Answered (r .code) (r .value);
+        field = r .field;
         world = boxOf (r .host) (lentAs (now (s .1 .0)) (now (a .1 .1 .0)) (now (a .1 .1 .1 .0)));
         memory = [];
       }
@@ -47,6 +48,7 @@ module _ (κs : Lfts 5) (a : Dens κs writes.stage.ingress.Kinds.ps) where
       → step (boxOf (a .0) (lentAs (now (a .1 .0)) (now (a .1 .1 .0)) (now (a .1 .1 .1 .0)))) (Ingress (now (a .1 .1 .1 .1 .0)) (now (a .1 .1 .1 .1 .1 .0)))
       ≡ record {
         said = Answered (r .code) (r .value);
+        field = r .field;
         world = boxOf (r .host) (lentAs (now (s .1 .0)) (now (a .1 .1 .0)) (now (a .1 .1 .1 .0)));
         memory = [];
       }
@@ -60,6 +62,7 @@ module _ (κs : Lfts 4) (a : Dens κs writes.write.write.Kinds.ps) where
       → step (boxOf (a .0) (lentAs (now (a .1 .1 .0)) (now (a .1 .1 .1 .0)) (now (a .1 .1 .1 .1 .0)))) (Write (now (a .1 .0)) (a .1 .1 .1 .1 .1 .0))
       ≡ record {
         said = Answered (r .code) (r .value);
+        field = r .field;
         world = boxOf (r .host) (lentAs (now (s .1 .1 .0)) (now (a .1 .1 .1 .0)) (now (a .1 .1 .1 .1 .0)));
         memory = now (a .1 .0);
       }
@@ -73,6 +76,7 @@ module _ (κs : Lfts 4) (a : Dens κs reads.read.read.Kinds.ps) where
       → step (boxOf (a .0) (lentAs (now (a .1 .1 .0)) (now (a .1 .1 .1 .0)) (now (a .1 .1 .1 .1 .0)))) (Read (now (a .1 .0)) (a .1 .1 .1 .1 .1 .0))
       ≡ record {
         said = Answered (r .code) (r .value);
+        field = r .field;
         world = boxOf (r .host) (lentAs (now (a .1 .1 .0)) (now (a .1 .1 .1 .0)) (now (a .1 .1 .1 .1 .0)));
         memory = now (s .1 .0);
       }
@@ -86,6 +90,7 @@ module _ (κs : Lfts 4) (a : Dens κs host.Host.open.Kinds.ps) where
       → step (boxOf (a .0) (lentAs (now (a .1 .1 .0)) (now (a .1 .1 .1 .0)) (now (a .1 .1 .1 .1 .0)))) (Open (now (a .1 .0)) (a .1 .1 .1 .1 .1 .0))
       ≡ record {
         said = Answered (r .code) (r .value);
+        field = r .field;
         world = boxOf (r .host) (lentAs (now (a .1 .1 .0)) (now (a .1 .1 .1 .0)) (now (a .1 .1 .1 .1 .0)));
         memory = now (a .1 .0);
       }
@@ -99,6 +104,7 @@ module _ (κs : Lfts 4) (a : Dens κs reads.next.next.Kinds.ps) where
       → step (boxOf (a .0) (lentAs (now (a .1 .1 .0)) (now (a .1 .1 .1 .0)) (now (a .1 .1 .1 .1 .0)))) (Next (now (a .1 .0)) (a .1 .1 .1 .1 .1 .0))
       ≡ record {
         said = Answered (r .code) (r .value);
+        field = r .field;
         world = boxOf (r .host) (lentAs (now (a .1 .1 .0)) (now (a .1 .1 .1 .0)) (now (a .1 .1 .1 .1 .0)));
         memory = now (s .1 .0);
       }
@@ -112,6 +118,7 @@ module _ (κs : Lfts 4) (a : Dens κs host.Host.close.Kinds.ps) where
       → step (boxOf (a .0) (lentAs (now (a .1 .1 .0)) (now (a .1 .1 .1 .0)) (now (a .1 .1 .1 .1 .0)))) (Close (now (a .1 .0)) (a .1 .1 .1 .1 .1 .0))
       ≡ record {
         said = Answered (r .code) (r .value);
+        field = r .field;
         world = boxOf (r .host) (lentAs (now (a .1 .1 .0)) (now (a .1 .1 .1 .0)) (now (a .1 .1 .1 .1 .0)));
         memory = now (a .1 .0);
       }
@@ -125,6 +132,7 @@ module _ (κs : Lfts 3) (a : Dens κs host.Host.module_return.Kinds.ps) where
       → step (boxOf (a .0) (lentAs (now (a .1 .0)) (now (a .1 .1 .0)) (now (a .1 .1 .1 .0)))) (Return (a .1 .1 .1 .1 .0))
       ≡ record {
         said = Ended (r .fate);
+        field = 0;
         world = boxOf (r .host) (lentAs (now (s .1 .0)) (now (s .1 .1 .0)) (now (a .1 .1 .1 .0)));
         memory = [];
       }

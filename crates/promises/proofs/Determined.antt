@@ -162,7 +162,8 @@ pub record WeaveOnce : Type 0 where
   pub args-topic-fine : ResultOnce weave.args.topic_fine.Kinds.ps weave.args.topic_fine.Kinds.r weave.args.topic_fine.Reads.Learnt
   pub args-filter-fine : ResultOnce weave.args.filter_fine.Kinds.ps weave.args.filter_fine.Kinds.r weave.args.filter_fine.Reads.Learnt
   pub args-out-fine : ResultOnce weave.args.out_fine.Kinds.ps weave.args.out_fine.Kinds.r weave.args.out_fine.Reads.Learnt
-  pub args-payload-fine : ResultOnce weave.args.payload_fine.Kinds.ps weave.args.payload_fine.Kinds.r weave.args.payload_fine.Reads.Learnt
+  pub args-writeargs-data-fine : ResultOnce weave.args.WriteArgs.data_fine.Kinds.ps weave.args.WriteArgs.data_fine.Kinds.r weave.args.WriteArgs.data_fine.Reads.Learnt
+  pub args-writeargs-len-fine : ResultOnce weave.args.WriteArgs.len_fine.Kinds.ps weave.args.WriteArgs.len_fine.Kinds.r weave.args.WriteArgs.len_fine.Reads.Learnt
   pub args-filter-bytes : ResultOnce weave.args.filter_bytes.Kinds.ps weave.args.filter_bytes.Kinds.r weave.args.filter_bytes.Reads.Learnt
   pub charges-write-charge : ResultOnce weave.charges.write_charge.Kinds.ps weave.charges.write_charge.Kinds.r weave.charges.write_charge.Reads.Learnt
   pub weave-lent-fine : ResultOnce weave.Weave.lent_fine.Kinds.ps weave.Weave.lent_fine.Kinds.r weave.Weave.lent_fine.Reads.Learnt
@@ -173,9 +174,15 @@ pub record WeaveOnce : Type 0 where
   pub code-number : ResultOnce weave.Code.number.Kinds.ps weave.Code.number.Kinds.r weave.Code.number.Reads.Learnt
   pub code-fine : ResultOnce weave.Code.fine.Kinds.ps weave.Code.fine.Kinds.r weave.Code.fine.Reads.Learnt
   pub code-budget : ResultOnce weave.Code.budget.Kinds.ps weave.Code.budget.Kinds.r weave.Code.budget.Reads.Learnt
+  pub code-bad : ResultOnce weave.Code.bad.Kinds.ps weave.Code.bad.Kinds.r weave.Code.bad.Reads.Learnt
   pub code-then : ResultOnce weave.Code.then.Kinds.ps weave.Code.then.Kinds.r weave.Code.then.Reads.Learnt
   pub code-reason : ResultOnce weave.Code.reason.Kinds.ps weave.Code.reason.Kinds.r weave.Code.reason.Reads.Learnt
   pub codes-need : ResultOnce weave.codes.need.Kinds.ps weave.codes.need.Kinds.r weave.codes.need.Reads.Learnt
+  pub code-plain : ResultOnce weave.Code.plain.Kinds.ps weave.Code.plain.Kinds.r weave.Code.plain.Reads.Learnt
+  pub code-naming : ResultOnce weave.Code.naming.Kinds.ps weave.Code.naming.Kinds.r weave.Code.naming.Reads.Learnt
+  pub findings-need-at : ResultOnce weave.findings.need_at.Kinds.ps weave.findings.need_at.Kinds.r weave.findings.need_at.Reads.Learnt
+  pub finding-fine : ResultOnce weave.Finding.fine.Kinds.ps weave.Finding.fine.Kinds.r weave.Finding.fine.Reads.Learnt
+  pub finding-then : ResultOnce weave.Finding.then.Kinds.ps weave.Finding.then.Kinds.r weave.Finding.then.Reads.Learnt
   pub mark-code : ResultOnce weave.Mark.code.Kinds.ps weave.Mark.code.Kinds.r weave.Mark.code.Reads.Learnt
   pub weave-fresh : ResultOnce weave.Weave.fresh.Kinds.ps weave.Weave.fresh.Kinds.r weave.Weave.fresh.Reads.Learnt
   pub weave-begun : ResultOnce weave.Weave.begun.Kinds.ps weave.Weave.begun.Kinds.r weave.Weave.begun.Reads.Learnt
@@ -212,7 +219,7 @@ pub record TakesOnce : Type 0 where
   pub begun-begun : ResultOnce takes.begun.begun.Kinds.ps takes.begun.begun.Kinds.r takes.begun.begun.Reads.Learnt
   pub buffers-clear-if-s : SeenOnce takes.buffers.clear_if.Kinds.ps takes.buffers.clear_if.Kinds.r takes.buffers.clear_if.Reads.Learnt (λ κs z s. now (s .1 .0))
   pub opening-opening : ResultOnce takes.opening.opening.Kinds.ps takes.opening.opening.Kinds.r takes.opening.opening.Reads.Learnt
-  pub page-page-code : ResultOnce takes.page.page_code.Kinds.ps takes.page.page_code.Kinds.r takes.page.page_code.Reads.Learnt
+  pub page-page-check : ResultOnce takes.page.page_check.Kinds.ps takes.page.page_check.Kinds.r takes.page.page_check.Reads.Learnt
   pub page-page-bytes : ResultOnce takes.page.page_bytes.Kinds.ps takes.page.page_bytes.Kinds.r takes.page.page_bytes.Reads.Learnt
   pub page-find-page : ResultOnce takes.page.find_page.Kinds.ps takes.page.find_page.Kinds.r takes.page.find_page.Reads.Learnt
   pub page-hand-over : ResultOnce takes.page.hand_over.Kinds.ps takes.page.hand_over.Kinds.r takes.page.hand_over.Reads.Learnt
@@ -242,6 +249,7 @@ pub record HostOnce : Type 0 where
   pub with-weave : ResultOnce host.Host.with_weave.Kinds.ps host.Host.with_weave.Kinds.r host.Host.with_weave.Reads.Learnt
   pub enter : ResultOnce host.Host.enter.Kinds.ps host.Host.enter.Kinds.r host.Host.enter.Reads.Learnt
   pub admit : ResultOnce host.Host.admit.Kinds.ps host.Host.admit.Kinds.r host.Host.admit.Reads.Learnt
+  pub gate : ResultOnce host.Entry.gate.Kinds.ps host.Entry.gate.Kinds.r host.Entry.gate.Reads.Learnt
   pub settle : ResultOnce host.Host.settle.Kinds.ps host.Host.settle.Kinds.r host.Host.settle.Reads.Learnt
   pub fate-number : ResultOnce host.Fate.number.Kinds.ps host.Fate.number.Kinds.r host.Fate.number.Reads.Learnt
   pub fate-events : ResultOnce host.Fate.events.Kinds.ps host.Fate.events.Kinds.r host.Fate.events.Reads.Learnt

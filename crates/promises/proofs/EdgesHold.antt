@@ -29,7 +29,7 @@ use Rattle.card.specs.declared.Page.the-variants.{End, Short, Bytes}
 use Rattle.weave.specs.declared.Code.{Code}
 use Rattle.weave.specs.declared.Code.the-variants.{Fine, Denied, NotNow, Unsound, NoRoom, Bad, Budget, BadValue}
 use Rattle.weave.specs.declared.Spoiled.the-variants.{Not}
-use Rattle.weave.specs.Codes.{isFine, first, need, reasonOf}
+use Rattle.weave.specs.Codes.{isFine, firstBy, need, reasonOf}
 use Rattle.weave.specs.Args.{nextArgs}
 use Rattle.takes.specs.Pages.{pageBytes}
 use Rattle.host.specs.declared.Fate.the-variants.{Discarded}
@@ -96,7 +96,7 @@ untrue false t = refl
 -- a return whose code is a reason discards with it
 discards : (w : World) (code : ℤ) (c : Code) → Returns w → w .host .weave .spoiled .0 ≡ Not → reasonOf code ≡ c → isFine c ≡ false
     → step w (Return code) .said ≡ Ended (Discarded c)
-unfolding step returnAnswer fateOf returnCheck whyNot first need
+unfolding step returnAnswer fateOf returnCheck whyNot firstBy need
 discards w code c r u e n = rw (r .check-1, r .running, u, e, n)
 
 -- a next into k bytes where two records of 152 are left

@@ -1,7 +1,10 @@
 pub mod AcceptedLaws
 pub mod OutcomeHolds
 pub mod ReturnHolds
+pub mod CheckLaws
 pub mod ChecksHold
+pub mod FieldsHold
+pub mod FineHolds
 pub mod AcceptedHolds
 pub mod AnswersHold
 pub mod MountHolds

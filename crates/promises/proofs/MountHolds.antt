@@ -22,7 +22,8 @@ use Rattle.mounts.specs.Mount.{sizesFine, mountCheck, mountedBy, mounted}
 use Rattle.promises.specs.Box.{recordsOn, mountedAs}
 use Rattle.promises.specs.Checks.{failing}
 use Rattle.promises.specs.Mounting.{mountChecks, StateOf, noLengths}
-use Rattle.promises.proofs.ChecksHold.{fine-is, all-passed}
+use Rattle.promises.proofs.CheckLaws.{all-passed}
+use Rattle.promises.proofs.ChecksHold.{fine-is}
 
 pub record Mounts (l : Lent) (used : ℕ) : Type 0 where
   pub code : mounted l used .code ≡ failing (mountChecks l used)

@@ -13,11 +13,13 @@ use Rattle.le.proofs.TestLaws.{and-left, and-right}
 use Rattle.le.proofs.SpliceLaws.{splice-nil}
 use Rattle.weave.specs.declared.Code.{Code}
 use Rattle.weave.specs.declared.Code.the-variants.{NotNow, Bad}
-use Rattle.weave.specs.Codes.{isFine, isBudget}
+use Rattle.weave.specs.declared.Finding.{Finding}
+use Rattle.weave.specs.Codes.{isBudget}
+use Rattle.weave.specs.Findings.{plain, isClear}
 use Rattle.weave.specs.Moves.{openedWith, movedTo, closedAt}
 use Rattle.weave.specs.States.{paid, holding, tabled, spoilt, turned}
 use Rattle.weave.specs.Args.{openArgs, nextArgs, closeHandle}
-use Rattle.weave.proofs.CodeLaws.{first-left}
+use Rattle.weave.proofs.CodeLaws.{found-left}
 use Rattle.takes.specs.Opening.{opening}
 use Rattle.takes.specs.Begun.{begun}
 use Rattle.host.specs.declared.Host.{Host}
@@ -35,7 +37,8 @@ use Rattle.promises.specs.Diary.{Diary, ingressRecord, writtenRecord, no
 use Rattle.promises.specs.Standing.{Standing, done}
 use Rattle.promises.specs.Turn.{pageOn, isNextOn}
 use Rattle.promises.proofs.OutcomeHolds.{Fated, turned-away, has-reason, turns-on, ends-badly, ends-well, fated, return-runs, conditions}
-use Rattle.promises.proofs.ChecksHold.{Comes, begin-code, ingress-code, write-code, read-code, open-code, next-code, close-code, return-code}
+use Rattle.promises.proofs.CheckLaws.{Finds, finds-code}
+use Rattle.promises.proofs.ChecksHold.{begin-finds, ingress-finds, write-finds, read-finds, open-finds, next-finds, close-finds, return-code}
 use Rattle.promises.proofs.AcceptedHolds.{begin-exactly, ingress-exactly, write-exactly, read-exactly, open-exactly, next-exactly, close-exactly, next-page, read-page}
 use Rattle.promises.proofs.StagedLaws.{ingress-staged, write-staged}
 use Rattle.promises.proofs.MoveLaws.{Traced, called, Unpaid, Free, Paid, Kept, Staged, Same, Opens, Hands, Closes, Cleared, Unmarked, Overspends, Panics, Stays, Turns, Move, Rests, Begins, GoesOn, Commits, Discards, after, entryBy, heardBy, handedBy, endsTurn, Moved}
@@ -75,19 +78,19 @@ record Accepted (w : World) (o : Op) : Type 0 where
   given : (k : ℕ) → pageOn k w o ≡ handedBy k w o move
   stays : endsTurn w o move ≡ false
 
-module _ (w : World) (o : Op) (c : Code) (v : ℕ) (next′ : Host) (staging′ memory′ : List ℕ)
-    (is : step w o ≡ answered w (settle (w .host) c v next′) staging′ memory′) where
+module _ (w : World) (o : Op) (f : Finding) (v : ℕ) (next′ : Host) (staging′ memory′ : List ℕ)
+    (is : step w o ≡ answered w (settle (w .host) f v next′) staging′ memory′) where
   -- THE LAW of `settle`: accepted it is what it is then; refused, nothing is changed but for the mark
-  settled : (isFine c ≡ false → (staging′ ≡ w .lent .staging) × (memory′ ≡ memoryOf o)) → Comes c (checksOf w o) → (w .host .weave .running ≡ false → isBudget (failing (checksOf w o)) ≡ false)
-      → (isRefused (step w o .said) ≡ false → isFine c ≡ true → Accepted w o) → Moved w o
+  settled : (isClear f ≡ false → (staging′ ≡ w .lent .staging) × (memory′ ≡ memoryOf o)) → Finds f (checksOf w o) → (w .host .weave .running ≡ false → isBudget (failing (checksOf w o)) ≡ false)
+      → (isRefused (step w o .said) ≡ false → isClear f ≡ true → Accepted w o) → Moved w o
   unfolding settle turnedAway withWeave spoilt
-  settled off code idle accepts = go (isFine c) refl (isBudget c) refl
+  settled off found idle accepts = go (isClear f) refl (isBudget (f .code)) refl
     where
-      in-weave : (r : Bool) → w .host .weave .running ≡ r → isBudget c ≡ true → w .host .weave .running ≡ true
+      in-weave : (r : Bool) → w .host .weave .running ≡ r → isBudget (f .code) ≡ true → w .host .weave .running ≡ true
       in-weave true q b = q
-      in-weave false q b = absurd (true≢false (sym b ∙ ap isBudget (code .is) ∙ idle q))
+      in-weave false q b = absurd (true≢false (sym b ∙ ap isBudget (finds-code f (checksOf w o) found) ∙ idle q))
 
-      go : (t : Bool) → isFine c ≡ t → (b : Bool) → isBudget c ≡ b → Moved w o
+      go : (t : Bool) → isClear f ≡ t → (b : Bool) → isBudget (f .code) ≡ b → Moved w o
       go true q b r =
           let said : isRefused (step w o .said) ≡ false = rw (is, q) in
           let y = accepts said q in
@@ -182,15 +185,15 @@ module _ (w : World) where
   begin-moved : (args : List ℕ) → Moved w (Begin args)
   unfolding step beginAnswer beginStaging settle withWeave
   begin-moved args =
-      settled w (Begin args) (beginCheck l h args) 0 (withWeave h (begun args)) (beginStaging l h args) [] refl
-      (λ e. (rw e, refl)) (begin-code w args) (λ i. no-budget (checksOf w (Begin args)) refl)
+      settled w (Begin args) (plain (beginCheck l h args)) 0 (withWeave h (begun args)) (beginStaging l h args) [] refl
+      (λ e. (rw e, refl)) (begin-finds w args) (λ i. no-budget (checksOf w (Begin args)) refl)
       (λ a f. record { move = Begins args (begin-exactly w args .0 a .idle) (λ b. b); world = rw f; entry = λ b t d. refl; heard-as = λ s. refl; given = λ k. refl; stays = refl })
 
   ingress-moved : (topic payload : List ℕ) → Moved w (Ingress topic payload)
   unfolding step ingressAnswer ingressStaging ingressRecord settle withWeave holding
   ingress-moved topic payload =
-      settled w (Ingress topic payload) (ingressCheck l h topic payload) 0 _ (ingressStaging l h topic payload) [] refl
-      (λ e. (rw e, refl)) (ingress-code w topic payload) (λ i. no-budget (checksOf w (Ingress topic payload)) refl)
+      settled w (Ingress topic payload) (plain (ingressCheck l h topic payload)) 0 _ (ingressStaging l h topic payload) [] refl
+      (λ e. (rw e, refl)) (ingress-finds w topic payload) (λ i. no-budget (checksOf w (Ingress topic payload)) refl)
       (λ a f. record {
         move = GoesOn (ingress-exactly w topic payload .0 a .running) (called w _ Unpaid (Staged _ _ (λ b t. ingress-staged l h topic payload t (ingress-exactly w topic payload .0 a))) Same);
         world = rw f;
@@ -205,9 +208,9 @@ module _ (w : World) where
     unfolding step writeAnswer writeStaging writtenRecord settle written panicked withWeave holding paid spoilt
     write-moved =
         settled w (Write m at) (writeCheck (w .charge) l h m at) 0 _ (writeStaging (w .charge) l h m at) m refl
-        (λ e. (rw e, refl)) (write-code w m at) (gate-idle w m (writeAsks w m at)) (λ a f. go a f (isPanic m at) refl)
+        (λ e. (rw e, refl)) (write-finds w m at) (gate-idle w m (writeAsks w m at)) (λ a f. go a f (isPanic m at) refl)
       where
-        go : isRefused (step w (Write m at) .said) ≡ false → isFine (writeCheck (w .charge) l h m at) ≡ true → (p : Bool) → isPanic m at ≡ p → Accepted w (Write m at)
+        go : isRefused (step w (Write m at) .said) ≡ false → isClear (writeCheck (w .charge) l h m at) ≡ true → (p : Bool) → isPanic m at ≡ p → Accepted w (Write m at)
         go a f true p =
             record {
               move = GoesOn (write-exactly w m at .0 a .gated .running) (record { cost = Free; staging = Kept; cursors = Same; mark = Panics; turn = Stays });
@@ -231,10 +234,10 @@ module _ (w : World) where
     read-moved : Moved w (Read m at)
     unfolding step readAnswer readMemory readCheck settle withWeave paid
     read-moved =
-        settled w (Read m at) (readCheck l h m at) _ _ (l .staging) (readMemory l h m at) refl (λ e. (refl, rw e)) (read-code w m at) (gate-idle w m (readAsks w m at))
+        settled w (Read m at) (readCheck l h m at) _ _ (l .staging) (readMemory l h m at) refl (λ e. (refl, rw e)) (read-finds w m at) (gate-idle w m (readAsks w m at))
         (λ a f.
         let may = read-exactly w m at .0 a in
-        let page = read-page w m at (first-left (readSound l h m at) _ f) in
+        let page = read-page w m at (found-left (readSound l h m at) _ f) in
         record {
           move = GoesOn (may .gated .running) (called w _ (Paid _ (may .budget)) Kept Same);
           world = rw (f, page);
@@ -247,7 +250,7 @@ module _ (w : World) where
     open-moved : Moved w (Open m at)
     unfolding step openAnswer openNext settle withWeave opening openedWith tabled paid
     open-moved =
-        settled w (Open m at) (openCheck l h m at) (nextHandle h) _ (l .staging) m refl (λ e. (refl, refl)) (open-code w m at) (gate-idle w m (openAsks w m at))
+        settled w (Open m at) (openCheck l h m at) (nextHandle h) _ (l .staging) m refl (λ e. (refl, refl)) (open-finds w m at) (gate-idle w m (openAsks w m at))
         (λ a f.
         let may = open-exactly w m at .0 a in
         record {
@@ -262,10 +265,10 @@ module _ (w : World) where
     next-moved : Moved w (Next m at)
     unfolding step nextAnswer nextMemory nextCheck nextHost nextCursor settle withWeave movedTo tabled paid
     next-moved =
-        settled w (Next m at) (nextCheck l h m at) _ _ (l .staging) (nextMemory l h m at) refl (λ e. (refl, rw e)) (next-code w m at) (gate-idle w m (nextAsks w m at))
+        settled w (Next m at) (nextCheck l h m at) _ _ (l .staging) (nextMemory l h m at) refl (λ e. (refl, rw e)) (next-finds w m at) (gate-idle w m (nextAsks w m at))
         (λ a f.
         let may = next-exactly w m at .0 a in
-        let page = next-page w m at (first-left (nextSound l h m at) _ f) in
+        let page = next-page w m at (found-left (nextSound l h m at) _ f) in
         record {
           move = GoesOn (may .gated .running) (called w _ (Paid _ (may .budget)) Kept (Hands (nextArgs m at .handle) (nextArgs m at .out .len) (may .handle)));
           world = rw (f, page);
@@ -278,7 +281,7 @@ module _ (w : World) where
     close-moved : Moved w (Close m at)
     unfolding step closeAnswer closeNext settle withWeave closedAt tabled paid
     close-moved =
-        settled w (Close m at) (closeCheck l h m at) 0 _ (l .staging) m refl (λ e. (refl, refl)) (close-code w m at) (gate-idle w m (closeAsks w m at))
+        settled w (Close m at) (closeCheck l h m at) 0 _ (l .staging) m refl (λ e. (refl, refl)) (close-finds w m at) (gate-idle w m (closeAsks w m at))
         (λ a f.
         let may = close-exactly w m at .0 a in
         record {

@@ -10,7 +10,7 @@ use lib.Dec.{leb}
 use lib.IntN.{ℤ, pos}
 use lib.ListN.{length, take}
 use Rattle.le.proofs.TestLaws.{Tested, passes, fails, tested}
-use Rattle.card.specs.Pick.{All, only}
+use Rattle.card.specs.Pick.{only}
 use Rattle.card.specs.Records.{size}
 use Rattle.card.specs.Listing.{listed, inOrder, listOf, fit, pageOf}
 use Rattle.card.specs.declared.Cursor.{Cursor}
@@ -18,23 +18,20 @@ use Rattle.card.specs.declared.Page.{Page}
 use Rattle.card.specs.declared.Page.the-variants.{End, Short, Bytes}
 use Rattle.card.proofs.PickLaws.{only-not}
 use Rattle.weave.specs.declared.Code.{Code}
-use Rattle.weave.specs.declared.Code.the-variants.{NoRoom}
+use Rattle.weave.specs.declared.Code.the-variants.{Fine, NoRoom}
 use Rattle.weave.specs.Codes.{isFine, number}
 use Rattle.weave.specs.Args.{nextArgs}
 use Rattle.takes.specs.Pages.{pageBytes, pageCharge}
 use Rattle.reads.specs.Paging.{nextList, nextAnswer}
 use Rattle.promises.specs.Box.{World, Next, step, codeOf, saidNumber}
-use Rattle.promises.specs.Checks.{Check, Passed, failing, gate, paged, nextFirst}
+use Rattle.promises.specs.Checks.{Check, failing, gate, paged, nextFirst}
 use Rattle.promises.specs.Diary.{answerOf}
 use Rattle.promises.specs.Turn.{listLeft}
 use Rattle.promises.specs.Edges.{Ready, cursorAt}
+use Rattle.promises.proofs.CheckLaws.{passed-on}
 use Rattle.promises.proofs.ChecksHold.{code-is}
 use Rattle.promises.proofs.AnswersHold.{answers-are, page-bytes}
 use Rattle.promises.proofs.ListHolds.{listed-means}
-
-passed-on : (cs ds : List Check) → All Passed cs → failing (cs ++ ds) ≡ failing ds
-passed-on [] ds p = refl
-passed-on (c ∷ cs) ds p = rw (p .0) (passed-on cs ds (p .1))
 
 -- the number of a page
 abbrev pub pageSays : Page → ℤ
@@ -62,7 +59,7 @@ module _ (w : World) (m : List ℕ) (a : ℕ) where
   pub next-says : (p : Page) → found ≡ p → (n : ℕ) → Ready w m a n → pageBytes p ≤ n → saidNumber (step w (Next m a) .said) ≡ pageSays p
   next-says p q n r h =
       let code : codeOf (step w (Next m a) .said) ≡ failing (paged w p) =
-      code-is w (Next m a) ∙ passed-on (gate w m ++ nextFirst w m a) (paged w found) (r .passed) ∙ ap (λ (x : Page). failing (paged w x)) q in
+      code-is w (Next m a) ∙ passed-on (λ (c : Check). c .code) Fine (gate w m ++ nextFirst w m a) (paged w found) (r .passed) ∙ ap (λ (x : Page). failing (paged w x)) q in
       said-by (failing (paged w p)) code (pageBytes p) (λ f. fine-answer (ap isFine code ∙ f) ∙ ap pageBytes q)
       ∙ go p (le-leb (w .host .weave .units + pageCharge p) (w .host .weave .resmax) (omega (arith, r .budget)))
     where

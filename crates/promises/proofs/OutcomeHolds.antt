@@ -15,7 +15,7 @@ use Rattle.manifest.specs.Saying.{modulesSaid, manifestOf}
 use Rattle.weave.specs.declared.Code.the-variants.{Denied, NotNow, Unsound, NoRoom, Bad, Budget, BadValue}
 use Rattle.weave.specs.declared.Spoiled.{Spoiled}
 use Rattle.weave.specs.declared.Spoiled.the-variants.{Not, Overspent, Panicked}
-use Rattle.weave.specs.Codes.{isFine, need, first, spoiledCode, reasonFor, reasonOf}
+use Rattle.weave.specs.Codes.{isFine, need, firstBy, spoiledCode, reasonFor, reasonOf}
 use Rattle.weave.proofs.CodeLaws.{need-test, first-left, first-right}
 use Rattle.weave.proofs.SumLaws.{added-sum}
 use Rattle.host.specs.declared.Host.{Host}
@@ -121,7 +121,7 @@ module _ (l : Lent) (h : Host) (code : ℤ) where
       go (ends-well a b c d p) = (ends-conditions a b c d, (cc, cc))
 
   pub commits : Conditions l h code → fateOf l h code ≡ Committed (h .weave .count) (h .weave .staged)
-  unfolding fateOf returnCheck whyNot lastCheck first need
+  unfolding fateOf returnCheck whyNot lastCheck firstBy need
   commits c =
       let law = lawful l h (c .check-1) in
       rw (c .check-1, c .running, c .unspoiled, code-good code (c .zero-or-one), le-ltb (h .weave .turn) (modulesSaid (manifestOf (l .text))) (omega (arith, c .last)), added-sum (h .next .0) (h .weave .count) (2 ^ 63) (law .numbers), c .sound, le-leb (h .used + h .weave .staged) (length (l .card)) (c .fits))

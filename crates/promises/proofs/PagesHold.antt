@@ -21,6 +21,7 @@ use Rattle.card.proofs.ListingLaws.{listed-has}
 use Rattle.weave.specs.declared.Code.the-variants.{Fine}
 use Rattle.weave.specs.declared.Slot.{Slot}
 use Rattle.weave.specs.Codes.{isFine}
+use Rattle.weave.specs.Findings.{isClear}
 use Rattle.weave.specs.Sums.{added}
 use Rattle.weave.specs.Moves.{cursorOf, openedWith}
 use Rattle.weave.specs.States.{paid, tabled}
@@ -153,7 +154,7 @@ module _ (w : World) (t : TidyIn w) (m : List ℕ) (at k : ℕ) (o : step w (Ope
   may-open : OpenMay (w .lent) (w .host) m at
   may-open = open-exactly w m at .0 (ap isRefused o)
 
-  opened-fine : isFine (openCheck (w .lent) (w .host) m at) ≡ true
+  opened-fine : isClear (openCheck (w .lent) (w .host) m at) ≡ true
   unfolding step openAnswer
   opened-fine = settle-ok (w .host) (openCheck (w .lent) (w .host) m at) _ _ (ap isRefused o)
 

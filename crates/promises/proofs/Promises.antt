@@ -1,4 +1,4 @@
--- THE PROMISES, each in one place and in the user's order. What they speak of is in specs/: Box, Checks, Mounting, Refusal, Accepted, Outcome, Diary, Standing,
+-- THE PROMISES, each in one place and in the user's order. What they speak of is in specs/: Box, Checks, Fields, Mounting, Refusal, Accepted, Outcome, Diary, Standing,
 -- ReadBack, Turn, Naming, Charging, TwoWeaves. That they are about the code is ContractsHold.antt; that they do not hold because nothing happens is the last part.
 -- Assumes nothing.
 use mathlib.Core.Path.{_≡_, ap}
@@ -11,6 +11,8 @@ use lib.ListN.{length, getD}
 use Rattle.le.specs.Splice.{splice, zeros}
 use Rattle.le.specs.Le.{Bytes}
 use Rattle.text.specs.Topic.{goodTopic, cardTopic, goodFilter}
+use Rattle.text.specs.Flags.{isValue}
+use Rattle.value.specs.declared.Span.{Span}
 use Rattle.manifest.specs.declared.charge.Charge.the-variants.{First, Second}
 use Rattle.manifest.specs.Charge.{chargeBy}
 use Rattle.manifest.specs.Rights.{Right}
@@ -26,8 +28,9 @@ use Rattle.card.proofs.RecordsLaws.{records-rise}
 use Rattle.card.proofs.ListingLaws.{listed-order}
 use Rattle.weave.specs.declared.Code.{Code}
 use Rattle.weave.specs.declared.Code.the-variants.{Fine, Denied, NotNow, Unsound, NoRoom, Bad, Budget, BadValue}
-use Rattle.weave.specs.Codes.{isFine, number}
-use Rattle.weave.specs.Args.{writeArgs, readArgs, openArgs, nextArgs}
+use Rattle.weave.specs.Codes.{isFine, isBad, number}
+use Rattle.weave.specs.declared.args.WriteArgs.{WriteArgs}
+use Rattle.weave.specs.Args.{recordFine, writeArgs, readArgs, openArgs, nextArgs, bytesAt, topicFine, filterFine, outFine, dataFine, lenFine}
 use Rattle.takes.specs.Opening.{opening}
 use Rattle.takes.specs.Payloads.{payloadBytes}
 use Rattle.host.specs.declared.Fate.the-variants.{Discarded, Running, Committed}
@@ -39,7 +42,8 @@ use Rattle.reads.specs.Paging.{nextPart, nextAnswer, nextCheck}
 use Rattle.reads.specs.Reading.{readTopic, readList, readAnswer, readCheck}
 use Rattle.promises.specs.Box.{World, recordsOn, cardRecords, stagedRecords, LendsBytes, Op, Begin, Ingress, Write, Read, Open, Next, Close, Return, LookUp, Answered, Ended, Part, step, isRefused, codeOf, saidNumber, memoryOf, mountedUnder, mountedAs, run}
 use Rattle.promises.specs.Refusal.{Unchanged, OnlyThere}
-use Rattle.promises.specs.Checks.{Passed, failing, checksOf, answers, tooLate}
+use Rattle.promises.specs.Checks.{Passed, failing, failingField, checksOf, answers, tooLate}
+use Rattle.promises.specs.Fields.{FirstFailed, isModuleCall, namedBy, fieldsOf, Inside, Aligned, Payload}
 use Rattle.promises.specs.Mounting.{mountChecks, StateOf, noLengths}
 use Rattle.promises.specs.Accepted.{Lawful, BeginMay, IngressMay, WriteMay, ReadMay, OpenMay, NextMay, CloseMay}
 use Rattle.promises.specs.Outcome.{Conditions, InNumbers, Unhindered, moduleCount, Reason, nextTurn, returnsIn, RunsOn, SameCard, saysCommitted, NoneCommitted, Appended, butFaulted, PanicLeft, begunWith, SameWeave}
@@ -53,7 +57,9 @@ use Rattle.promises.specs.TwoWeaves.{saidOver, twoModules, theCalls, the
 use Rattle.promises.proofs.AcceptedLaws.{lawful, fine-lawful, settle-ok}
 use Rattle.promises.proofs.OutcomeHolds.{committed-exactly}
 use Rattle.promises.proofs.ReturnHolds.{in-numbers, discarded-exactly, running-exactly, turn-passes}
-use Rattle.promises.proofs.ChecksHold.{code-is, accepted-exactly}
+use Rattle.promises.proofs.ChecksHold.{code-is, field-is, accepted-exactly}
+use Rattle.promises.proofs.FieldsHold.{named-exactly, others-0, module-only, its-own}
+use Rattle.promises.proofs.FineHolds.{record-exactly, topic-exactly, filter-exactly, out-exactly, data-exactly, len-exactly}
 use Rattle.promises.proofs.AcceptedHolds.{begin-exactly, ingress-exactly, write-exactly, read-exactly, open-exactly, next-exactly, close-exactly}
 use Rattle.promises.proofs.AnswersHold.{answers-are, late-is}
 use Rattle.promises.proofs.MountHolds.{mounts}
@@ -418,6 +424,50 @@ a-manifest-says-what-it-is-made-of = says-so
 pub a-write-costs-by-each-edition : (total q : ℕ)
     → (total ≡ 8 * q → chargeBy First total ≡ 1 + q) × (total ≤ 64 * q → 64 * q < total + 64 → chargeBy Second total ≡ 4 + q)
 a-write-costs-by-each-edition = by-edition
+
+-- ==== 02, A5: which field was it?
+
+-- "Each -5 from a module call also gives the byte offset, in its argument record, of the first field that failed, in the order of the checks": the field, like the
+-- code, is that of the first check that fails, and 0 where none does. Which check names which field is in `checksOf`.
+pub the-first-check-that-fails-gives-the-field : (w : World) (o : Op) → step w o .field ≡ failingField (checksOf w o)
+the-first-check-that-fails-gives-the-field = field-is
+
+-- so -5 comes with just this field: all checks before it are passed, and its own fails. (Of what is no module call f is 0, and 0 is then no field.)
+pub a-field-is-named-exactly-when-it-is-the-first-that-failed : (w : World) (o : Op) (f : ℕ)
+    → ((codeOf (step w o .said) ≡ Bad) × (step w o .field ≡ f)) ↔ FirstFailed f (checksOf w o)
+a-field-is-named-exactly-when-it-is-the-first-that-failed = named-exactly
+
+-- "Other codes give 0", and so do calls that are accepted
+pub only-minus-5-names-a-field : (w : World) (o : Op) → isBad (codeOf (step w o .said)) ≡ false → step w o .field ≡ 0
+only-minus-5-names-a-field = others-0
+
+-- .. and what is no module call
+pub only-a-module-call-names-a-field : (w : World) (o : Op) → isModuleCall o ≡ false → step w o .field ≡ 0
+only-a-module-call-names-a-field = module-only
+
+-- the fields that the checks of each module call name, in their order
+pub a-call-names-its-own-fields : (w : World) (o : Op) → isModuleCall o ≡ true → namedBy (checksOf w o) ≡ fieldsOf o
+a-call-names-its-own-fields = its-own
+
+-- and what each field is held against, in numbers. Of write, read and tl_open the topic; of write the payload, with len as it stands, then len
+module _ (m : List ℕ) where
+  pub a-record-is-fine-exactly-when : (a n : ℕ) → (recordFine m a n ≡ true) ↔ Aligned a n (length m)
+  a-record-is-fine-exactly-when = record-exactly m
+
+  pub a-topic-is-fine-exactly-when : (s : Span) → (topicFine m s ≡ true) ↔ (Inside (s .ptr) (s .len) (length m) × (goodTopic (bytesAt m s) ≡ true))
+  a-topic-is-fine-exactly-when = topic-exactly m
+
+  pub a-filter-is-fine-exactly-when : (s : Span) → (filterFine m s ≡ true) ↔ (Inside (s .ptr) (s .len) (length m) × (goodFilter (bytesAt m s) ≡ true))
+  a-filter-is-fine-exactly-when = filter-exactly m
+
+  pub an-out-buffer-is-fine-exactly-when : (s : Span) → (outFine m s ≡ true) ↔ Aligned (s .ptr) (s .len) (length m)
+  an-out-buffer-is-fine-exactly-when = out-exactly m
+
+  pub a-payload-is-fine-exactly-when : (w : WriteArgs) → (dataFine m w ≡ true) ↔ Payload (isValue (w .flags)) (w .place) (w .len) (length m)
+  a-payload-is-fine-exactly-when = data-exactly m
+
+pub its-len-is-fine-exactly-when : (w : WriteArgs) → (lenFine w ≡ true) ↔ (isValue (w .flags) ≡ true → w .len ≡ 32)
+its-len-is-fine-exactly-when = len-exactly
 
 -- ==== Nothing of this holds because nothing happens
 

@@ -24,9 +24,10 @@ use Rattle.card.proofs.WalkLaws.{to-count, recordOf-is}
 use Rattle.card.proofs.ListingLaws.{listed-has}
 use Rattle.card.proofs.PageLaws.{size-fit}
 use Rattle.weave.specs.Codes.{isFine}
+use Rattle.weave.specs.Findings.{plain, isClear}
 use Rattle.weave.specs.Moves.{cursorOf}
 use Rattle.weave.specs.Args.{writeArgs, readArgs, nextArgs}
-use Rattle.weave.proofs.CodeLaws.{first-left}
+use Rattle.weave.proofs.CodeLaws.{found-left}
 use Rattle.takes.specs.Payloads.{payloadBytes}
 use Rattle.host.specs.Hosts.{lentCheck}
 use Rattle.writes.specs.Stage.{headerFor, ingressCheck, ingressAnswer, ingressStaging, isPanic, writtenTopic, writeCheck, writeAnswer, writeStaging}
@@ -64,7 +65,7 @@ pub ingress-reads-back : (w : World) (topic payload : List ℕ) → length (w .h
     × Written (headerFor (w .host) 1 0) (w .host .weave .trace) topic payload (ingressRecord w topic payload)
 unfolding step ingressAnswer ingressStaging ingressRecord
 ingress-reads-back w topic payload l t e =
-    let c = settle-ok (w .host) (ingressCheck (w .lent) (w .host) topic payload) _ _ e in
+    let c = settle-ok (w .host) (plain (ingressCheck (w .lent) (w .host) topic payload)) _ _ e in
     (rw c, ingress-back (w .lent) (w .host) topic payload l (ingress-exactly w topic payload .0 e) t)
 
 -- ---- look-up
@@ -133,5 +134,5 @@ read-page-stands w m at e =
     (all-fit Framed cap list (all-only Framed _ _ (records-framed (take (w .host .weave .staged) (w .lent .staging)) (w .host .next .0))))
     (omega (arith, size-fit cap list, out-lies (w .lent) (w .host) m at (read-sound w m at c))))
   where
-    read-sound : (w : World) (m : List ℕ) (at : ℕ) → isFine (readCheck (w .lent) (w .host) m at) ≡ true → isFine (readSound (w .lent) (w .host) m at) ≡ true
-    read-sound w m at c = first-left (readSound (w .lent) (w .host) m at) _ c
+    read-sound : (w : World) (m : List ℕ) (at : ℕ) → isClear (readCheck (w .lent) (w .host) m at) ≡ true → isClear (readSound (w .lent) (w .host) m at) ≡ true
+    read-sound w m at c = found-left (readSound (w .lent) (w .host) m at) _ c

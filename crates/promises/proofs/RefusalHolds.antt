@@ -16,10 +16,11 @@ use Rattle.card.specs.declared.Page.the-variants.{Short, Bytes}
 use Rattle.card.proofs.PageLaws.{length-shownFrom}
 use Rattle.weave.specs.declared.Code.{Code}
 use Rattle.weave.specs.declared.Spoiled.the-variants.{Overspent}
-use Rattle.weave.specs.Codes.{isFine, isBudget}
+use Rattle.weave.specs.Codes.{isBudget}
+use Rattle.weave.specs.Findings.{isClear}
 use Rattle.weave.specs.States.{spoilt}
 use Rattle.weave.specs.Args.{nextArgs, readArgs}
-use Rattle.weave.proofs.CodeLaws.{first-left}
+use Rattle.weave.proofs.CodeLaws.{found-left}
 use Rattle.takes.specs.Pages.{pageBytes}
 use Rattle.host.specs.declared.Host.{Host}
 use Rattle.host.specs.Hosts.{Lent, withWeave, settle}
@@ -58,10 +59,10 @@ page-long at cap (r ∷ t) = length-shownFrom at (fit cap (r ∷ t)) ∙ go (leb
 
 module _ (l : Lent) (h : Host) (m : List ℕ) (a : ℕ) where
   -- next, not refused: the bytes that it answers, from out_ptr on
-  pub next-there : isFine (nextCheck l h m a) ≡ true → OnlyThere m (nextMemory l h m a) (nextArgs m a .out .ptr) (nextAnswer l h m a .value)
+  pub next-there : isClear (nextCheck l h m a) ≡ true → OnlyThere m (nextMemory l h m a) (nextArgs m a .out .ptr) (nextAnswer l h m a .value)
   unfolding nextMemory nextAnswer settle nextPage
   next-there f = rw (f, next-sound l h m a f) (laid-there m (nextArgs m a .out .ptr) _ _ (page-long (nextArgs m a .out .ptr) (nextArgs m a .out .len) _))
 
-  pub read-there : isFine (readCheck l h m a) ≡ true → OnlyThere m (readMemory l h m a) (readArgs m a .out .ptr) (readAnswer l h m a .value)
+  pub read-there : isClear (readCheck l h m a) ≡ true → OnlyThere m (readMemory l h m a) (readArgs m a .out .ptr) (readAnswer l h m a .value)
   unfolding readMemory readAnswer settle readPage readCheck
-  read-there f = rw (f, first-left (readSound l h m a) _ f) (laid-there m (readArgs m a .out .ptr) _ _ (page-long (readArgs m a .out .ptr) (readArgs m a .out .len) _))
+  read-there f = rw (f, found-left (readSound l h m a) _ f) (laid-there m (readArgs m a .out .ptr) _ _ (page-long (readArgs m a .out .ptr) (readArgs m a .out .len) _))

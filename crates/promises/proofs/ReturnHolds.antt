@@ -16,7 +16,7 @@ use Rattle.weave.specs.declared.Code.{Code}
 use Rattle.weave.specs.declared.Code.the-variants.{Fine, Denied, NotNow, Unsound, NoRoom, Bad, Budget, BadValue}
 use Rattle.weave.specs.declared.Spoiled.{Spoiled}
 use Rattle.weave.specs.declared.Spoiled.the-variants.{Not, Overspent, Panicked}
-use Rattle.weave.specs.Codes.{isFine, number, need, first, spoiledCode, reasonFor, reasonOf}
+use Rattle.weave.specs.Codes.{isFine, number, need, firstBy, first, spoiledCode, reasonFor, reasonOf}
 use Rattle.weave.specs.States.{turned}
 use Rattle.weave.proofs.CodeLaws.{first-left, first-right, reason-other}
 use Rattle.weave.proofs.SumLaws.{added-sum}
@@ -66,7 +66,7 @@ module _ (w : World) (code : ℤ) where
   returns f = record { check-1 = first-left (lentCheck (w .lent) (w .host)) _ f; running = return-runs (w .lent) (w .host) f }
 
   fine : Returns w → isFine (returnCheck (w .lent) (w .host)) ≡ true
-  unfolding returnCheck first need
+  unfolding returnCheck firstBy need
   fine r = rw (r .check-1, r .running)
 
   -- ---- the reason
@@ -88,7 +88,7 @@ module _ (w : World) (code : ℤ) where
       other r s (λ c q. let m = subst Small q (small c) in omega arith) (λ q. let z : _≡_ {A = ℕ} 0 1 = cc in omega arith)
 
   by-mark : Returns w → (s : Spoiled) → w .host .weave .spoiled .0 ≡ s → isFine (whyNot (w .host) code) ≡ false → Reason w code (whyNot (w .host) code)
-  unfolding whyNot first
+  unfolding whyNot firstBy
   by-mark r s q e = subst (Reason w code) (sym is) (go s q (sym (ap isFine is) ∙ e))
     where
       is : whyNot (w .host) code ≡ first (reasonFor s) (reasonOf code)
@@ -108,14 +108,14 @@ module _ (w : World) (code : ℤ) where
   }
 
   no-reason : Unhindered w code → isFine (whyNot (w .host) code) ≡ true
-  unfolding whyNot first
+  unfolding whyNot firstBy
   no-reason u = rw (u .unspoiled) (code-good code (u .zero-or-one))
 
   at-last : isFine (returnCheck (w .lent) (w .host)) ≡ true → moduleCount w ≤ w .host .weave .turn → w .host .weave .turn ≡ moduleCount w
   at-last a b = omega (arith, lawful (w .lent) (w .host) (returns a .check-1) .turn-most (returns a .running))
 
   by-last : Unhindered w code → w .host .weave .turn ≡ moduleCount w → isFine (lastCheck (w .lent) (w .host)) ≡ false → Reason w code (lastCheck (w .lent) (w .host))
-  unfolding lastCheck first need
+  unfolding lastCheck firstBy need
   by-last u t e =
       let law = lawful (w .lent) (w .host) (u .returns .check-1) in
       let sum = added-sum (w .host .next .0) (w .host .weave .count) (2 ^ 63) (law .numbers) in
@@ -139,7 +139,7 @@ module _ (w : World) (code : ℤ) where
       go (ends-well a b l d p) = let z : _≡_ {A = ℕ} 0 1 = cc in absurd (omega arith)
 
   discards : (c : Code) → Reason w code c → fateOf (w .lent) (w .host) code ≡ Discarded c
-  unfolding fateOf whyNot lastCheck first need
+  unfolding fateOf whyNot lastCheck firstBy need
   discards c (overspent r s) = rw (fine r, s)
   discards c (panicked r s) = rw (fine r, s)
   discards c (own r s d f e) = rw (fine r, s, ← e, reason-back d f, f)

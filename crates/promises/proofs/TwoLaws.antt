@@ -27,7 +27,7 @@ use Rattle.manifest.specs.declared.charge.Charge.the-variants.{First}
 use Rattle.manifest.specs.Charge.{chargeNamed, chargeBy}
 use Rattle.manifest.specs.Head.{optional, beyond, modulesOf, headOf, grantLines}
 use Rattle.manifest.specs.Saying.{isGood, modulesSaid, manifestOf, chargeOf, goodHead, grantsSaid, goodGrants, allGrants, mayRead, mayWrite}
-use Rattle.weave.specs.Args.{recordFine, fieldAt, writeArgs, readArgs, openArgs, nextArgs, closeHandle, topicFine, filterFine, outFine, payloadFine}
+use Rattle.weave.specs.Args.{recordFine, fieldAt, writeArgs, readArgs, openArgs, nextArgs, closeHandle, topicFine, filterFine, outFine, dataFine, lenFine}
 use Rattle.takes.specs.Payloads.{payloadChecked}
 use Rattle.writes.specs.Stage.{isPanic, writtenTopic, dataLen}
 use Rattle.promises.specs.TwoWeaves.{twoModules, memory}
@@ -105,9 +105,13 @@ pub no-panic : isPanic memory 8 ≡ false
 unfolding writeArgs fieldAt recordFine inside memory leBytes leAt part sameBytes panicTopic
 no-panic = refl
 
-pub payload-fine : payloadFine memory (writeArgs memory 8) ≡ true
-unfolding payloadFine writeArgs fieldAt recordFine inside memory leBytes leAt
-payload-fine = refl
+pub data-fine : dataFine memory (writeArgs memory 8) ≡ true
+unfolding dataFine writeArgs fieldAt recordFine inside memory leBytes leAt
+data-fine = refl
+
+pub len-fine : lenFine (writeArgs memory 8) ≡ true
+unfolding lenFine writeArgs fieldAt recordFine inside memory leBytes leAt
+len-fine = refl
 
 pub raw : payloadChecked memory (writeArgs memory 8) ≡ record { fault = NoFault; len = 0 }
 unfolding payloadChecked writeArgs fieldAt recordFine inside memory leBytes leAt

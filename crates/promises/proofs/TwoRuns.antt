@@ -30,6 +30,7 @@ use Rattle.card.proofs.ListingLaws.{unfit, fit-lists}
 use Rattle.weave.specs.Args.{recordFine, fieldAt, writeArgs, openArgs}
 use Rattle.weave.specs.declared.Code.the-variants.{Fine}
 use Rattle.weave.specs.Codes.{isFine}
+use Rattle.weave.specs.Findings.{isClear}
 use Rattle.weave.specs.States.{freshWeave, begunWeave, paid, holding, tabled}
 use Rattle.weave.specs.Sums.{added}
 use Rattle.weave.specs.declared.Slot.{Slot}
@@ -37,7 +38,7 @@ use Rattle.weave.specs.Table.{freeSlot, noSlots, hasHandle, slotPlace, slotOf}
 use Rattle.weave.specs.Checks.{slotFine, handleFine}
 use Rattle.weave.specs.Moves.{cursorOf, openedWith, movedTo, closedAt}
 use Rattle.weave.proofs.SumLaws.{added-sum}
-use Rattle.weave.proofs.CodeLaws.{first-left}
+use Rattle.weave.proofs.CodeLaws.{found-left}
 use Rattle.takes.specs.Payloads.{payloadBytes}
 use Rattle.takes.specs.Begun.{argAt, begun}
 use Rattle.takes.specs.Pages.{pageCharge}
@@ -66,7 +67,7 @@ use Rattle.promises.proofs.AskedHolds.{asked-by}
 use Rattle.promises.proofs.ReadBackHolds.{write-reads-back}
 use Rattle.promises.proofs.ListHolds.{means-listed}
 use Rattle.promises.proofs.RunLaws.{no-bytes, long, At, one-more, emptyBox, mount-ok, mount-host, at-first}
-use Rattle.promises.proofs.TwoLaws.{long-memory, said-good, said-first, said-two, may-write, may-read, topic-is, write-args, read-args, open-args, next-args, close-arg, records-fine, topic-fine, filter-fine, out-fine, no-panic, payload-fine, raw, memory-bytes, topic-long, data-none, topic-read}
+use Rattle.promises.proofs.TwoLaws.{long-memory, said-good, said-first, said-two, may-write, may-read, topic-is, write-args, read-args, open-args, next-args, close-arg, records-fine, topic-fine, filter-fine, out-fine, no-panic, data-fine, len-fine, raw, memory-bytes, topic-long, data-none, topic-read}
 
 one-listed : (p : List ℕ → Bool) (d : Bool) (k : ℕ) (r : List ℕ) → d ≡ false → k ≡ 9 → p r ≡ true → take k (only p (inOrder d (r ∷ []))) ≡ r ∷ []
 unfolding only inOrder
@@ -124,7 +125,8 @@ module _ (n c : ℕ) (n-least : 65536 ≤ n) (n-most : n ≤ 1048576) (c-least :
     args = records-fine .0;
     topic = rw write-args topic-fine;
     flags = rw write-args;
-    payload = payload-fine;
+    payload = data-fine;
+    value-len = len-fine;
     granted = rw topic-read may-write;
     value = ap (λ (k : Checked). k .fault) raw;
     room = λ p. rw (topic-long, data-none, staging₁, le-leb 136 n (omega arith));
@@ -134,7 +136,7 @@ module _ (n c : ℕ) (n-least : 65536 ≤ n) (n-most : n ≤ 1048576) (c-least :
   e₁ : isRefused (step w₁ (Write memory 8) .said) ≡ false
   e₁ = write-exactly w₁ memory 8 .1 may₁
 
-  f₁ : isFine (writeCheck (w₁ .charge) (w₁ .lent) (w₁ .host) memory 8) ≡ true
+  f₁ : isClear (writeCheck (w₁ .charge) (w₁ .lent) (w₁ .host) memory 8) ≡ true
   unfolding step writeAnswer
   f₁ = settle-ok (w₁ .host) _ 0 _ e₁
 
@@ -233,7 +235,7 @@ module _ (n c : ℕ) (n-least : 65536 ≤ n) (n-most : n ≤ 1048576) (c-least :
   e₃ : isRefused (step w₃ (Read memory 48) .said) ≡ false
   e₃ = read-exactly w₃ memory 48 .1 may₃
 
-  f₃ : isFine (readCheck (w₃ .lent) (w₃ .host) memory 48) ≡ true
+  f₃ : isClear (readCheck (w₃ .lent) (w₃ .host) memory 48) ≡ true
   unfolding step readAnswer
   f₃ = settle-ok (w₃ .host) _ _ _ e₃
 
@@ -246,7 +248,7 @@ module _ (n c : ℕ) (n-least : 65536 ≤ n) (n-most : n ≤ 1048576) (c-least :
 
   s₃ : step w₃ (Read memory 48) .said ≡ Answered Fine 136
   unfolding step readAnswer settle readCheck
-  s₃ = rw (f₃, read-page w₃ memory 48 (first-left (readSound (w₃ .lent) (w₃ .host) memory 48) _ f₃), list₃, read-args, page₃)
+  s₃ = rw (f₃, read-page w₃ memory 48 (found-left (readSound (w₃ .lent) (w₃ .host) memory 48) _ f₃), list₃, read-args, page₃)
 
   abbrev d₄ : Diary
   d₄ = record { kept = recordsOn (zeros c) 0; staged = event ∷ []; units = (0 + w₁ .charge (length event)) + (1 + 136 / 8) }
@@ -327,7 +329,7 @@ module _ (n c : ℕ) (n-least : 65536 ≤ n) (n-most : n ≤ 1048576) (c-least :
   e₆ : isRefused (step w₆ (Open memory 88) .said) ≡ false
   e₆ = open-exactly w₆ memory 88 .1 may₆
 
-  f₆ : isFine (openCheck (w₆ .lent) (w₆ .host) memory 88) ≡ true
+  f₆ : isClear (openCheck (w₆ .lent) (w₆ .host) memory 88) ≡ true
   unfolding step openAnswer
   f₆ = settle-ok (w₆ .host) _ _ _ e₆
 
@@ -399,7 +401,7 @@ module _ (n c : ℕ) (n-least : 65536 ≤ n) (n-most : n ≤ 1048576) (c-least :
   e₇ : isRefused (step w₇ (Next memory 136) .said) ≡ false
   e₇ = next-exactly w₇ memory 136 .1 may₇
 
-  f₇ : isFine (nextCheck (w₇ .lent) (w₇ .host) memory 136) ≡ true
+  f₇ : isClear (nextCheck (w₇ .lent) (w₇ .host) memory 136) ≡ true
   unfolding step nextAnswer
   f₇ = settle-ok (w₇ .host) _ _ _ e₇
 
@@ -411,7 +413,7 @@ module _ (n c : ℕ) (n-least : 65536 ≤ n) (n-most : n ≤ 1048576) (c-least :
 
   page₇ : nextPage (w₇ .lent) (w₇ .host) memory 136 ≡ Sized 136
   unfolding nextCheck
-  page₇ = next-page w₇ memory 136 (first-left (nextSound (w₇ .lent) (w₇ .host) memory 136) _ f₇) ∙ rw (next-args, list₇) page₃
+  page₇ = next-page w₇ memory 136 (found-left (nextSound (w₇ .lent) (w₇ .host) memory 136) _ f₇) ∙ rw (next-args, list₇) page₃
 
   cursor₇ : cursorOf (w₇ .host .weave) 1 ≡ cursor₆
   unfolding cursorOf slotOf withWeave openedWith tabled paid begun begunWeave slotPlace hasHandle noSlots freeSlot opening
@@ -465,13 +467,13 @@ module _ (n c : ℕ) (n-least : 65536 ≤ n) (n-most : n ≤ 1048576) (c-least :
   e₈ : isRefused (step w₈ (Next memory 136) .said) ≡ false
   e₈ = next-exactly w₈ memory 136 .1 may₈
 
-  f₈ : isFine (nextCheck (w₈ .lent) (w₈ .host) memory 136) ≡ true
+  f₈ : isClear (nextCheck (w₈ .lent) (w₈ .host) memory 136) ≡ true
   unfolding step nextAnswer
   f₈ = settle-ok (w₈ .host) _ _ _ e₈
 
   page₈ : nextPage (w₈ .lent) (w₈ .host) memory 136 ≡ End
   unfolding nextCheck pageOf
-  page₈ = next-page w₈ memory 136 (first-left (nextSound (w₈ .lent) (w₈ .host) memory 136) _ f₈) ∙ rw (next-args, list₈)
+  page₈ = next-page w₈ memory 136 (found-left (nextSound (w₈ .lent) (w₈ .host) memory 136) _ f₈) ∙ rw (next-args, list₈)
 
   abbrev w₉ : World
   w₉ = boxOf (withWeave (w₈ .host) (movedTo (w₈ .host .weave) 1 cursor₈ 1)) (w₈ .lent)
@@ -504,7 +506,7 @@ module _ (n c : ℕ) (n-least : 65536 ≤ n) (n-most : n ≤ 1048576) (c-least :
   e₉ : isRefused (step w₉ (Close memory 160) .said) ≡ false
   e₉ = close-exactly w₉ memory 160 .1 may₉
 
-  f₉ : isFine (closeCheck (w₉ .lent) (w₉ .host) memory 160) ≡ true
+  f₉ : isClear (closeCheck (w₉ .lent) (w₉ .host) memory 160) ≡ true
   unfolding step closeAnswer
   f₉ = settle-ok (w₉ .host) _ _ _ e₉
 

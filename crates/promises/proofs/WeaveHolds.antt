@@ -15,6 +15,7 @@ use Rattle.le.proofs.SpliceLaws.{length-part, part-of-splice, length-splice, pa
 use Rattle.card.specs.Pick.{All}
 use Rattle.weave.specs.States.{freshWeave, begunWeave}
 use Rattle.takes.specs.Begun.{argAt, traceOf, begun}
+use Rattle.weave.specs.Findings.{plain}
 use Rattle.host.specs.Hosts.{Lent, withWeave, turnedAway, settle}
 use Rattle.host.specs.Begin.{beginCheck, beginAnswer, beginStaging}
 use Rattle.host.specs.Ending.{committed}
@@ -38,7 +39,7 @@ whole-trace t e =
 pub begin-sets : (w : World) (args : List ℕ) → isRefused (step w (Begin args) .said) ≡ false → step w (Begin args) .world ≡ begunWith w args
 unfolding step beginAnswer beginStaging settle turnedAway withWeave begun begunWeave argAt traceOf
 begin-sets w args e =
-    let c = settle-ok (w .host) (beginCheck (w .lent) (w .host) args) 0 _ e in
+    let c = settle-ok (w .host) (plain (beginCheck (w .lent) (w .host) args)) 0 _ e in
     let n = begin-exactly w args .0 e .long in
     let is = eq-eqb (length args) 128 n in
     rw (c, is, whole-trace (part 56 32 args) (length-part 56 32 args (omega arith)))

@@ -14,7 +14,7 @@ use Rattle.card.specs.Walk.{chainTo}
 use Rattle.weave.specs.declared.Spoiled.the-variants.{Not}
 use Rattle.weave.specs.Codes.{isFine}
 use Rattle.weave.specs.Sums.{added}
-use Rattle.weave.specs.Args.{recordFine, writeArgs, readArgs, openArgs, nextArgs, closeHandle, topicFine, filterFine, outFine, payloadFine}
+use Rattle.weave.specs.Args.{recordFine, writeArgs, readArgs, openArgs, nextArgs, closeHandle, topicFine, filterFine, outFine, dataFine, lenFine}
 use Rattle.weave.specs.Checks.{handleFine, slotFine}
 use Rattle.takes.specs.Payloads.{payloadChecked}
 use Rattle.takes.specs.Pages.{pageCode, pageCharge}
@@ -73,7 +73,8 @@ pub record WriteMay (charge : ℕ → ℕ) (l : Lent) (h : Host) (m : List ℕ) 
   pub args : recordFine m a 40 ≡ true
   pub topic : topicFine m (writeArgs m a .topic) ≡ true
   pub flags : goodFlags (writeArgs m a .flags) ≡ true
-  pub payload : payloadFine m (writeArgs m a) ≡ true
+  pub payload : dataFine m (writeArgs m a) ≡ true
+  pub value-len : lenFine (writeArgs m a) ≡ true
   -- "topic not granted"
   pub granted : mayWrite (l .text) (h .weave .turn) (writtenTopic m a) ≡ true
   pub value : payloadChecked m (writeArgs m a) .fault ≡ NoFault

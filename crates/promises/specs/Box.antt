@@ -74,9 +74,10 @@ pub data Said : Type 0 where
   Ended : Fate → Said
   Part : List ℕ → Said
 
--- one asking: what is said, the box afterwards, and the memory afterwards
+-- one asking: what is said, the field that a -5 of a module call names besides (02, A5; else 0), the box afterwards, and the memory afterwards
 pub record Step : Type 0 where
   pub said : Said
+  pub field : ℕ
   pub world : World
   pub memory : List ℕ
 
@@ -84,6 +85,7 @@ abbrev pub answered : World → Answer → List ℕ → List ℕ → Step
 answered w a staging′ memory′ =
     record {
       said = Answered (a .code) (a .value);
+      field = a .field;
       world = record { host = a .host; lent = lentAs staging′ (w .lent .card) (w .lent .text); charge = w .charge };
       memory = memory′;
     }
@@ -101,6 +103,7 @@ step w (Close m a) = answered w (closeAnswer (w .lent) (w .host) m a) (w .lent .
 step w (Return code) =
     record {
       said = Ended (returnAnswer (w .lent) (w .host) code .fate);
+      field = 0;
       world = record {
         host = returnAnswer (w .lent) (w .host) code .host;
         lent = lentAs (returnStaging (w .lent) (w .host) code) (returnCard (w .lent) (w .host) code) (w .lent .text);
@@ -108,7 +111,7 @@ step w (Return code) =
       };
       memory = [];
     }
-step w (LookUp id) = record { said = Part (looked (w .lent) (w .host) id); world = w; memory = [] }
+step w (LookUp id) = record { said = Part (looked (w .lent) (w .host) id); field = 0; world = w; memory = [] }
 
 -- the memory that is lent to a call; none to the others
 abbrev pub memoryOf : Op → List ℕ

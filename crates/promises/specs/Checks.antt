@@ -1,4 +1,5 @@
--- 01, "Order of checks": of each call, what is asked, one after the other, and the code that is given where it fails. "No code is given in any other case."
+-- 01, "Order of checks": of each call, what is asked, one after the other, and the code that is given where it fails. "No code is given in any other case." 02, A5: with
+-- -5 from a module call, the field too: "the byte offset, in its argument record, of the first field that failed, in the order of the checks".
 -- Assumes nothing.
 use mathlib.Core.Path.{_≡_}
 use mathlib.Core.Bool.{Bool, true, false, not, _||_, cond}
@@ -21,7 +22,7 @@ use Rattle.weave.specs.declared.Spoiled.{Spoiled}
 use Rattle.weave.specs.declared.Spoiled.the-variants.{Not, Overspent, Panicked}
 use Rattle.weave.specs.Codes.{isFine}
 use Rattle.weave.specs.Sums.{added}
-use Rattle.weave.specs.Args.{recordFine, writeArgs, readArgs, openArgs, nextArgs, closeHandle, topicFine, filterFine, outFine, payloadFine}
+use Rattle.weave.specs.Args.{recordFine, writeArgs, readArgs, openArgs, nextArgs, closeHandle, topicFine, filterFine, outFine, dataFine, lenFine}
 use Rattle.weave.specs.Checks.{lentFine, handleFine, slotFine}
 use Rattle.takes.specs.Payloads.{payloadChecked}
 use Rattle.takes.specs.Pages.{pageCode, pageCharge}
@@ -34,17 +35,31 @@ use Rattle.promises.specs.Box.{World, cardChained, stagedPart, Op, Begin
 pub record Check : Type 0 where
   pub asks : Bool
   pub code : Code
+  pub field : ℕ
 
+-- a check that names no field: of another code, or of what is no module call
 abbrev pub check : Bool → Code → Check
-check asks′ code′ = record { asks = asks′; code = code′ }
+check asks′ code′ = record { asks = asks′; code = code′; field = 0 }
+
+-- -5, and the field
+abbrev pub checkAt : Bool → ℕ → Check
+checkAt asks′ field′ = record { asks = asks′; code = Bad; field = field′ }
 
 abbrev pub Passed : Check → Type 0
 Passed c = c .asks ≡ true
 
--- the code of the first that fails; Fine where none does
+-- what the first that fails has, whatever that is; `none` where none fails
+abbrev pub ofFirst : {A : Type 0} → (Check → A) → A → List Check → A
+ofFirst has none [] = none
+ofFirst has none (c ∷ cs) = cond (c .asks) (ofFirst has none cs) (has c)
+
+-- its code; Fine where none fails
 abbrev pub failing : List Check → Code
-failing [] = Fine
-failing (c ∷ cs) = cond (c .asks) (failing cs) (c .code)
+failing cs = ofFirst (λ (c : Check). c .code) Fine cs
+
+-- .. and its field
+abbrev pub failingField : List Check → ℕ
+failingField cs = ofFirst (λ (c : Check). c .field) 0 cs
 
 -- ---- what several calls ask
 
@@ -69,18 +84,20 @@ isUnfit Outside = false
 isUnfit Unfit = true
 
 -- (1), but for the memory
-abbrev pub lentAsked : World → Check
-lentAsked w =
-    check
-    (lentFine (w .host .lengths) (lengthsOf (w .lent)) (isGood (manifestOf (w .lent .text))) (modulesSaid (manifestOf (w .lent .text))) (w .host .used)
-    (w .host .next .0) (w .host .weave))
-    Bad
+abbrev pub lentAsks : World → Bool
+lentAsks w =
+    lentFine (w .host .lengths) (lengthsOf (w .lent)) (isGood (manifestOf (w .lent .text))) (modulesSaid (manifestOf (w .lent .text))) (w .host .used)
+    (w .host .next .0) (w .host .weave)
 
--- (1) to (3) of a module call with the memory m
+-- .. of what is no module call
+abbrev pub lentAsked : World → Check
+lentAsked w = check (lentAsks w) Bad
+
+-- (1) to (3) of a module call with the memory m: "254 for anything before check 4"
 abbrev pub gate : World → List ℕ → List Check
 gate w m =
-    check (leb (length m) 1048576) Bad
-    ∷ lentAsked w
+    checkAt (leb (length m) 1048576) 254
+    ∷ checkAt (lentAsks w) 254
     ∷ check (w .host .weave .running) NotNow
     ∷ check (not (isOverspent (w .host .weave .spoiled .0))) Budget
     ∷ check (not (isPanicked (w .host .weave .spoiled .0))) Denied
@@ -94,16 +111,17 @@ paged w p = check (isFine (pageCode p)) NoRoom ∷ check (leb (w .host .weave .u
 abbrev oneUnit : World → Check
 oneUnit w = check (leb (w .host .weave .units + 1) (w .host .weave .resmax)) Budget
 
--- ---- each call
+-- ---- each call: "a topic counts as offset 0, a span as its pointer, a fault inside a value .. as the data field; 255 for the record's own address"
 
 abbrev pub writeAsks : World → List ℕ → ℕ → List Check
 writeAsks w m a =
-    check (recordFine m a 40) Bad  -- (4)
-    ∷ check (topicFine m (writeArgs m a .topic)) Bad  -- (5)
-    ∷ check (goodFlags (writeArgs m a .flags)) Bad  -- (6): "flags come first"
-    ∷ check (payloadFine m (writeArgs m a)) Bad
+    checkAt (recordFine m a 40) 255  -- (4)
+    ∷ checkAt (topicFine m (writeArgs m a .topic)) 0  -- (5)
+    ∷ checkAt (goodFlags (writeArgs m a .flags)) 32  -- (6): "flags come first"
+    ∷ checkAt (dataFine m (writeArgs m a)) 16
+    ∷ checkAt (lenFine (writeArgs m a)) 24
     ∷ check (mayWrite (w .lent .text) (w .host .weave .turn) (writtenTopic m a)) Denied  -- (7)
-    ∷ check (not (isOutside (payloadChecked m (writeArgs m a) .fault))) Bad  -- (8)
+    ∷ checkAt (not (isOutside (payloadChecked m (writeArgs m a) .fault))) 16  -- (8)
     ∷ check (not (isUnfit (payloadChecked m (writeArgs m a) .fault))) BadValue
     -- a panic counts "once through check 8"
     ∷ check (isPanic m a || roomFine (w .host) (writeArgs m a .topic .len) (dataLen m a) (length (w .lent .staging))) NoRoom  -- (9)
@@ -112,9 +130,9 @@ writeAsks w m a =
 
 abbrev pub readFirst : World → List ℕ → ℕ → List Check
 readFirst w m a =
-    check (recordFine m a 40) Bad  -- (4)
-    ∷ check (topicFine m (readArgs m a .topic)) Bad  -- (5)
-    ∷ check (outFine m (readArgs m a .out)) Bad  -- (6)
+    checkAt (recordFine m a 40) 255  -- (4)
+    ∷ checkAt (topicFine m (readArgs m a .topic)) 0  -- (5)
+    ∷ checkAt (outFine m (readArgs m a .out)) 24  -- (6)
     ∷ check (mayRead (w .lent .text) (w .host .weave .turn) (readTopic m a)) Denied  -- (7)
     ∷ check (chainTo (stagedPart (w .lent) (w .host)) (w .host .next .0) (added (w .host .next .0) (w .host .weave .count) (2 ^ 63))) Unsound  -- (9)
     ∷ []
@@ -124,17 +142,17 @@ readAsks w m a = readFirst w m a ++ paged w (pageOf (readArgs m a .out .len) (re
 
 abbrev pub openAsks : World → List ℕ → ℕ → List Check
 openAsks w m a =
-    check (recordFine m a 48) Bad  -- (4)
-    ∷ check (filterFine m (openArgs m a .topic)) Bad  -- (5)
-    ∷ check (leb (openArgs m a .desc) 1) Bad  -- (6)
+    checkAt (recordFine m a 48) 255  -- (4)
+    ∷ checkAt (filterFine m (openArgs m a .topic)) 0  -- (5)
+    ∷ checkAt (leb (openArgs m a .desc) 1) 40  -- (6)
     ∷ check (slotFine (w .host .weave)) NoRoom  -- (9)
     ∷ oneUnit w  -- (10)
     ∷ []
 
 abbrev pub nextFirst : World → List ℕ → ℕ → List Check
 nextFirst w m a =
-    check (recordFine m a 24) Bad  -- (4)
-    ∷ check (outFine m (nextArgs m a .out)) Bad  -- (6)
+    checkAt (recordFine m a 24) 255  -- (4)
+    ∷ checkAt (outFine m (nextArgs m a .out)) 8  -- (6)
     ∷ check (handleFine (w .host .weave) (nextArgs m a .handle)) NotNow  -- (9)
     ∷ check (cardChained (w .lent) (w .host)) Unsound
     ∷ []
@@ -144,7 +162,7 @@ nextAsks w m a = nextFirst w m a ++ paged w (pageOf (nextArgs m a .out .len) (ne
 
 abbrev pub closeAsks : World → List ℕ → ℕ → List Check
 closeAsks w m a =
-    check (recordFine m a 8) Bad  -- (4)
+    checkAt (recordFine m a 8) 255  -- (4)
     ∷ check (handleFine (w .host .weave) (closeHandle m a)) NotNow  -- (9)
     ∷ oneUnit w  -- (10)
     ∷ []

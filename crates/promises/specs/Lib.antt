@@ -1,6 +1,7 @@
 pub mod Box
 pub mod Refusal
 pub mod Checks
+pub mod Fields
 pub mod Mounting
 pub mod Accepted
 pub mod Outcome

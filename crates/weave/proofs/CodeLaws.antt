@@ -1,4 +1,4 @@
--- The laws of codes: the order of checks, and return codes.
+-- The laws of codes and of findings: the order of checks, and return codes.
 -- Assumes nothing.
 use mathlib.Core.Path.{_≡_, refl, sym, ap, _∙_}
 use mathlib.Core.Bool.{Bool, true, false, cond, true≢false}
@@ -13,31 +13,51 @@ use mir.Val.{SFits, ofZ, toZ}
 use mir.Facts.{toZ-ofZ}
 use Rattle.weave.specs.declared.Code.{Code}
 use Rattle.weave.specs.declared.Code.the-variants.{Fine, Bad}
-use Rattle.weave.specs.Codes.{isFine, first, firstOf, need, reasonOf}
+use Rattle.weave.specs.declared.Finding.{Finding}
+use Rattle.weave.specs.Codes.{isFine, firstBy, firstOfBy, first, firstOf, need, reasonOf}
+use Rattle.weave.specs.Findings.{plain, isClear, firstFound, found}
 
--- where no check of a list finds fault, each of them finds none
+-- where no check of a list finds fault, each of them finds none; of whatever checks find
+module _ {A : Type 0} (fine : A → Bool) where
+  left-by : (a b : A) → fine (firstBy fine a b) ≡ true → fine a ≡ true
+  unfolding firstBy
+  left-by a b e = go (fine a) refl e
+    where
+      go : (t : Bool) → fine a ≡ t → fine (cond t b a) ≡ true → fine a ≡ true
+      go true q e = q
+      go false q e = e
+
+  right-by : (a b : A) → fine (firstBy fine a b) ≡ true → fine b ≡ true
+  unfolding firstBy
+  right-by a b e = go (fine a) refl e
+    where
+      go : (t : Bool) → fine a ≡ t → fine (cond t b a) ≡ true → fine b ≡ true
+      go true q e = e
+      go false q e = absurd (true≢false (sym e ∙ q))
+
+  fine-by : (none : A) → fine none ≡ true → (k : ℕ) (cs : List A) → fine (firstOfBy fine none cs) ≡ true → fine (getD cs k none) ≡ true
+  fine-by none f k [] e = f
+  fine-by none f zero (c ∷ []) e = e
+  fine-by none f (suc k) (c ∷ []) e = f
+  fine-by none f zero (c ∷ d ∷ ds) e = left-by c (firstOfBy fine none (d ∷ ds)) e
+  fine-by none f (suc k) (c ∷ d ∷ ds) e = fine-by none f k (d ∷ ds) (right-by c (firstOfBy fine none (d ∷ ds)) e)
+
+-- .. codes
 pub first-left : (a b : Code) → isFine (first a b) ≡ true → isFine a ≡ true
-unfolding first
-first-left a b e = go (isFine a) refl e
-  where
-    go : (t : Bool) → isFine a ≡ t → isFine (cond t b a) ≡ true → isFine a ≡ true
-    go true q e = q
-    go false q e = e
+first-left = left-by isFine
 
 pub first-right : (a b : Code) → isFine (first a b) ≡ true → isFine b ≡ true
-unfolding first
-first-right a b e = go (isFine a) refl e
-  where
-    go : (t : Bool) → isFine a ≡ t → isFine (cond t b a) ≡ true → isFine b ≡ true
-    go true q e = e
-    go false q e = absurd (true≢false (sym e ∙ q))
+first-right = right-by isFine
 
 pub fine-at : (k : ℕ) (cs : List Code) → isFine (firstOf cs) ≡ true → isFine (getD cs k Fine) ≡ true
-fine-at k [] e = refl
-fine-at zero (c ∷ []) e = e
-fine-at (suc k) (c ∷ []) e = refl
-fine-at zero (c ∷ d ∷ ds) e = first-left c (firstOf (d ∷ ds)) e
-fine-at (suc k) (c ∷ d ∷ ds) e = fine-at k (d ∷ ds) (first-right c (firstOf (d ∷ ds)) e)
+fine-at = fine-by isFine Fine refl
+
+-- .. and findings
+pub found-left : (f g : Finding) → isClear (firstFound f g) ≡ true → isClear f ≡ true
+found-left = left-by isClear
+
+pub clear-at : (k : ℕ) (fs : List Finding) → isClear (found fs) ≡ true → isClear (getD fs k (plain Fine)) ≡ true
+clear-at = fine-by isClear (plain Fine) refl
 
 -- a check that finds nothing wrong has its test
 pub need-test : (t : Bool) (c : Code) → isFine c ≡ false → isFine (need t c) ≡ true → t ≡ true

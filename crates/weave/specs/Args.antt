@@ -1,6 +1,6 @@
 -- The arguments of module calls: the record at an address of the memory (000, part II 3.16, 3.17 and 3.24 to 3.26), and the texts and buffers it names.
 -- Assumes nothing.
-use mathlib.Core.Bool.{Bool, _&&_, cond}
+use mathlib.Core.Bool.{Bool, not, _&&_, _||_, cond}
 use mathlib.Core.List.{List}
 use Prim.Native.Nat.{ℕ, _+_, _%_}
 use lib.Dec.{eqb}
@@ -24,39 +24,68 @@ recordFine m a n = eqb (a % 8) 0 && inside a n (length m)
 unfoldable pub fieldAt : ℕ → List ℕ → ℕ → ℕ → ℕ → ℕ
 fieldAt w m a n off = cond (recordFine m a n) (leAt w m (a + off)) 0
 
+-- ---- the fields that a -5 may name, by their offsets (02, A5): "a topic counts as offset 0, a span as its pointer, a fault inside a value .. as the data field"
+
+-- of write, read and tl_open
+abbrev pub topicAt : ℕ
+topicAt = 0
+
+-- of write
+abbrev pub dataAt : ℕ
+dataAt = 16
+
+abbrev pub lenAt : ℕ
+lenAt = 24
+
+abbrev pub flagsAt : ℕ
+flagsAt = 32
+
+-- out_ptr of read, and of tl_next
+abbrev pub readOutAt : ℕ
+readOutAt = 24
+
+abbrev pub nextOutAt : ℕ
+nextOutAt = 8
+
+-- of tl_open
+abbrev pub descAt : ℕ
+descAt = 40
+
+-- ---- the records
+
 -- "Write (40-byte arguments)": topic 0, data 16, len 24, flags 32
 unfoldable pub writeArgs : List ℕ → ℕ → WriteArgs
 writeArgs m a =
     record {
-      topic = record { ptr = fieldAt 8 m a 40 0; len = fieldAt 8 m a 40 8 };
-      place = fieldAt 8 m a 40 16;
-      len = fieldAt 8 m a 40 24;
-      flags = fieldAt 4 m a 40 32;
+      topic = record { ptr = fieldAt 8 m a 40 topicAt; len = fieldAt 8 m a 40 8 };
+      place = fieldAt 8 m a 40 dataAt;
+      len = fieldAt 8 m a 40 lenAt;
+      flags = fieldAt 4 m a 40 flagsAt;
     }
 
 -- "Read (40 bytes)": topic 0, start 16, out_ptr 24, out_cap 32
 unfoldable pub readArgs : List ℕ → ℕ → ReadArgs
 readArgs m a =
     record {
-      topic = record { ptr = fieldAt 8 m a 40 0; len = fieldAt 8 m a 40 8 };
+      topic = record { ptr = fieldAt 8 m a 40 topicAt; len = fieldAt 8 m a 40 8 };
       start = record { 0 = fieldAt 8 m a 40 16 };
-      out = record { ptr = fieldAt 8 m a 40 24; len = fieldAt 8 m a 40 32 };
+      out = record { ptr = fieldAt 8 m a 40 readOutAt; len = fieldAt 8 m a 40 32 };
     }
 
 -- "tl_open (48 bytes)": topic 0, start 16, end 24, limit 32, desc 40
 unfoldable pub openArgs : List ℕ → ℕ → OpenArgs
 openArgs m a =
     record {
-      topic = record { ptr = fieldAt 8 m a 48 0; len = fieldAt 8 m a 48 8 };
+      topic = record { ptr = fieldAt 8 m a 48 topicAt; len = fieldAt 8 m a 48 8 };
       from = record { 0 = fieldAt 8 m a 48 16 };
       to = record { 0 = fieldAt 8 m a 48 24 };
       limit = fieldAt 8 m a 48 32;
-      desc = fieldAt 1 m a 48 40;
+      desc = fieldAt 1 m a 48 descAt;
     }
 
 -- "tl_next (24 bytes)": handle 0, out_ptr 8, buf_cap 16
 unfoldable pub nextArgs : List ℕ → ℕ → NextArgs
-nextArgs m a = record { handle = fieldAt 8 m a 24 0; out = record { ptr = fieldAt 8 m a 24 8; len = fieldAt 8 m a 24 16 } }
+nextArgs m a = record { handle = fieldAt 8 m a 24 0; out = record { ptr = fieldAt 8 m a 24 nextOutAt; len = fieldAt 8 m a 24 16 } }
 
 -- "tl_close (8 bytes)": handle 0
 abbrev pub closeHandle : List ℕ → ℕ → ℕ
@@ -81,12 +110,13 @@ filterFine m s = spanFine m s && goodFilter (bytesAt m s)
 unfoldable pub outFine : List ℕ → Span → Bool
 outFine m s = eqb (s .ptr % 8) 0 && spanFine m s
 
--- check 6 of write, behind the flags: "the address of a value" is a multiple of 8, and "write's len is 32"; a raw payload is any span
-unfoldable pub payloadFine : List ℕ → WriteArgs → Bool
-payloadFine m w =
-    cond (isValue (w .flags))
-    (eqb (w .place % 8) 0 && (inside (w .place) 32 (length m) && eqb (w .len) 32))
-    (inside (w .place) (w .len) (length m))
+-- check 6 of write, behind the flags: "the address of a value" is a multiple of 8, and the payload, a value or not, is a span inside memory
+unfoldable pub dataFine : List ℕ → WriteArgs → Bool
+dataFine m w = (not (isValue (w .flags)) || eqb (w .place % 8) 0) && inside (w .place) (w .len) (length m)
+
+-- .. then, of a value, "write's len is 32"
+unfoldable pub lenFine : WriteArgs → Bool
+lenFine w = not (isValue (w .flags)) || eqb (w .len) 32
 
 -- a filter as a cursor keeps it: its bytes, then zeros
 unfoldable pub filterBytes : List ℕ → Span → List ℕ

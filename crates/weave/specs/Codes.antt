@@ -43,19 +43,37 @@ isBudget Bad = false
 isBudget Budget = true
 isBudget BadValue = false
 
+-- the one code that comes with a field (Findings)
+abbrev pub isBad : Code → Bool
+isBad Fine = false
+isBad Denied = false
+isBad NotNow = false
+isBad Unsound = false
+isBad NoRoom = false
+isBad Bad = true
+isBad Budget = false
+isBad BadValue = false
+
 -- a check: the code where the test fails
 unfoldable pub need : Bool → Code → Code
 need t c = cond t Fine c
 
--- the first of two checks that finds fault
-unfoldable pub first : Code → Code → Code
-first c d = cond (isFine c) d c
+-- the first of two checks that finds fault. What a check finds is a code, or more than that; `fine` says whether it is no fault
+unfoldable pub firstBy : {A : Type 0} → (A → Bool) → A → A → A
+firstBy fine c d = cond (fine c) d c
 
 -- the checks in their order: the first that finds fault decides
+abbrev pub firstOfBy : {A : Type 0} → (A → Bool) → A → List A → A
+firstOfBy fine none [] = none
+firstOfBy fine none (c ∷ []) = c
+firstOfBy fine none (c ∷ d ∷ ds) = firstBy fine c (firstOfBy fine none (d ∷ ds))
+
+-- where checks find codes
+abbrev pub first : Code → Code → Code
+first c d = firstBy isFine c d
+
 abbrev pub firstOf : List Code → Code
-firstOf [] = Fine
-firstOf (c ∷ []) = c
-firstOf (c ∷ d ∷ ds) = first c (firstOf (d ∷ ds))
+firstOf cs = firstOfBy isFine Fine cs
 
 -- check 3: "module call in a spoiled weave: its reason, -6 or -1"
 abbrev pub reasonFor : Spoiled → Code

@@ -1,4 +1,5 @@
 pub mod Codes
+pub mod Findings
 pub mod Sums
 pub mod Table
 pub mod States

@@ -1,8 +1,7 @@
 // The arguments of module calls: the record at an address of the memory, and the texts and buffers it names.
 ghost use mathlib.Core.Path.{_≡_};
 ghost use Prim.Native.Nat.{_+_, _≤_};
-ghost use lib.ListN.{length};
-ghost use Rattle.weave.specs.Args.{recordFine, fieldAt, writeArgs, readArgs, openArgs, nextArgs, closeHandle, bytesAt, topicFine, filterFine, outFine, payloadFine, filterBytes};
+ghost use Rattle.weave.specs.Args.{recordFine, fieldAt, writeArgs, readArgs, openArgs, nextArgs, closeHandle, bytesAt, topicFine, filterFine, outFine, dataFine, lenFine, filterBytes};
 use record::EventId;
 use text::limits::Limits;
 use value::Span;
@@ -76,17 +75,26 @@ fn field_u8(m: &[u8], a: u64, n: u64, off: u64) -> u8
 impl WriteArgs {
     pub const SIZE: u64 = 40;
 
+    // Where its fields lie, here and in the other records: a -5 names a field by this number.
+    pub const TOPIC: u64 = 0;
+
+    pub const DATA: u64 = 16;
+
+    pub const LEN: u64 = 24;
+
+    pub const FLAGS: u64 = 32;
+
     pub fn read(m: &[u8], a: u64) -> WriteArgs
         ensures { λ r. ⌜ r ≡ writeArgs (now (m .entry)) a ⌝ }
     {
         WriteArgs {
             topic: Span {
-                ptr: field(m, a, WriteArgs::SIZE, 0),
+                ptr: field(m, a, WriteArgs::SIZE, WriteArgs::TOPIC),
                 len: field(m, a, WriteArgs::SIZE, 8),
             },
-            place: field(m, a, WriteArgs::SIZE, 16),
-            len: field(m, a, WriteArgs::SIZE, 24),
-            flags: field_u32(m, a, WriteArgs::SIZE, 32),
+            place: field(m, a, WriteArgs::SIZE, WriteArgs::DATA),
+            len: field(m, a, WriteArgs::SIZE, WriteArgs::LEN),
+            flags: field_u32(m, a, WriteArgs::SIZE, WriteArgs::FLAGS),
         }
     }
 }
@@ -94,17 +102,21 @@ impl WriteArgs {
 impl ReadArgs {
     pub const SIZE: u64 = 40;
 
+    pub const TOPIC: u64 = 0;
+
+    pub const OUT: u64 = 24;
+
     pub fn read(m: &[u8], a: u64) -> ReadArgs
         ensures { λ r. ⌜ r ≡ readArgs (now (m .entry)) a ⌝ }
     {
         ReadArgs {
             topic: Span {
-                ptr: field(m, a, ReadArgs::SIZE, 0),
+                ptr: field(m, a, ReadArgs::SIZE, ReadArgs::TOPIC),
                 len: field(m, a, ReadArgs::SIZE, 8),
             },
             start: EventId(field(m, a, ReadArgs::SIZE, 16)),
             out: Span {
-                ptr: field(m, a, ReadArgs::SIZE, 24),
+                ptr: field(m, a, ReadArgs::SIZE, ReadArgs::OUT),
                 len: field(m, a, ReadArgs::SIZE, 32),
             },
         }
@@ -114,18 +126,22 @@ impl ReadArgs {
 impl OpenArgs {
     pub const SIZE: u64 = 48;
 
+    pub const TOPIC: u64 = 0;
+
+    pub const DESC: u64 = 40;
+
     pub fn read(m: &[u8], a: u64) -> OpenArgs
         ensures { λ r. ⌜ r ≡ openArgs (now (m .entry)) a ⌝ }
     {
         OpenArgs {
             topic: Span {
-                ptr: field(m, a, OpenArgs::SIZE, 0),
+                ptr: field(m, a, OpenArgs::SIZE, OpenArgs::TOPIC),
                 len: field(m, a, OpenArgs::SIZE, 8),
             },
             from: EventId(field(m, a, OpenArgs::SIZE, 16)),
             to: EventId(field(m, a, OpenArgs::SIZE, 24)),
             limit: field(m, a, OpenArgs::SIZE, 32),
-            desc: field_u8(m, a, OpenArgs::SIZE, 40),
+            desc: field_u8(m, a, OpenArgs::SIZE, OpenArgs::DESC),
         }
     }
 }
@@ -133,13 +149,15 @@ impl OpenArgs {
 impl NextArgs {
     pub const SIZE: u64 = 24;
 
+    pub const OUT: u64 = 8;
+
     pub fn read(m: &[u8], a: u64) -> NextArgs
         ensures { λ r. ⌜ r ≡ nextArgs (now (m .entry)) a ⌝ }
     {
         NextArgs {
             handle: field(m, a, NextArgs::SIZE, 0),
             out: Span {
-                ptr: field(m, a, NextArgs::SIZE, 8),
+                ptr: field(m, a, NextArgs::SIZE, NextArgs::OUT),
                 len: field(m, a, NextArgs::SIZE, 16),
             },
         }
@@ -189,16 +207,23 @@ pub fn out_fine(m: &[u8], s: Span) -> bool
     (s.ptr % 8 == 0) & text::span::inside(s.ptr, s.len, m.len() as u64)
 }
 
-// Check 6 of write, behind the flags.
-pub fn payload_fine(m: &[u8], w: WriteArgs) -> bool
-    ensures { λ r. ⌜ r ≡ payloadFine (now (m .entry)) w ⌝ }
-{
-    let size = m.len() as u64;
-    if text::flags::is_value(w.flags) {
-        let span = text::span::inside(w.place, Value::SIZE, size);
-        return (w.place % 8 == 0) & (span & (w.len == Value::SIZE));
+impl WriteArgs {
+    // Check 6, behind the flags: a value's address, and the payload's span.
+    pub fn data_fine(self, m: &[u8]) -> bool
+        ensures { λ r. ⌜ r ≡ dataFine (now (m .entry)) self ⌝ }
+    {
+        let value = text::flags::is_value(self.flags);
+        let span = text::span::inside(self.place, self.len, m.len() as u64);
+        (!value | (self.place % 8 == 0)) & span
     }
-    text::span::inside(w.place, w.len, size)
+
+    // .. then the length of a value.
+    pub fn len_fine(self) -> bool
+        ensures { λ r. ⌜ r ≡ lenFine self ⌝ }
+    {
+        let value = text::flags::is_value(self.flags);
+        !value | (self.len == Value::SIZE)
+    }
 }
 
 // A filter as a cursor keeps it.

@@ -1,6 +1,6 @@
 // Codes, and the order of checks.
 ghost use mathlib.Core.Path.{_≡_};
-ghost use Rattle.weave.specs.Codes.{isFine, isBudget, first, number, need, reasonOf, spoiledCode};
+ghost use Rattle.weave.specs.Codes.{isFine, isBudget, isBad, first, number, need, reasonOf, spoiledCode};
 use crate::Code;
 use crate::Mark;
 use crate::Spoiled;
@@ -63,6 +63,22 @@ impl Code {
             Code::NoRoom => false,
             Code::Bad => false,
             Code::Budget => true,
+            Code::BadValue => false,
+        }
+    }
+
+    // The one code that comes with a field.
+    pub fn bad(self) -> bool
+        ensures { λ r. ⌜ r ≡ isBad self ⌝ }
+    {
+        match self {
+            Code::Fine => false,
+            Code::Denied => false,
+            Code::NotNow => false,
+            Code::Unsound => false,
+            Code::NoRoom => false,
+            Code::Bad => true,
+            Code::Budget => false,
             Code::BadValue => false,
         }
     }

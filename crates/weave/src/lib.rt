@@ -3,6 +3,7 @@ pub mod args;
 pub mod charges;
 pub mod checks;
 pub mod codes;
+pub mod findings;
 pub mod moves;
 pub mod state;
 pub mod sums;
@@ -22,6 +23,12 @@ pub enum Code {
     Bad,
     Budget,
     BadValue,
+}
+
+// What a check of a module call finds: a code and, with -5, the field of its argument record that failed, by its offset. 0 with any other code.
+pub struct Finding {
+    pub code: Code,
+    pub field: u64,
 }
 
 // Why every further module call of the weave is refused.

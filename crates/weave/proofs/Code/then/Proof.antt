@@ -1,15 +1,15 @@
 -- `weave::Code::then` meets its contract. Assumes nothing.
-use Rattle.weave.specs.Codes.{first}
+use Rattle.weave.specs.Codes.{firstBy}
 use borrow.Author.Needs.{needs}
 use Rattle.weave.proofs.Code.then.Statement.{statement}
 use Rattle.weave.proofs.Code.then.Tie as tie
 
 returns : tie.Need-returns
-unfolding first
+unfolding firstBy
 returns c = cc
 
 returns-2 : tie.Need-returns-2
-unfolding first
+unfolding firstBy
 returns-2 c = cc
 
 pub then-spec : {M : Type 1} → statement M
