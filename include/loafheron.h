@@ -34,6 +34,12 @@
  *
  * A REFUSAL leaves every lent byte and the state as before, with one exception: the first -6 marks the weave spoiled.
  *
+ * WHICH FIELD. A module call that is refused with -5 also says for what: `field` is the byte offset, in its argument record, of the
+ * first field that failed, in the order of the checks. A topic counts as offset 0, a span as its pointer, a fault inside a value as
+ * the write's data. Two numbers are no offsets: 255 is the address of the record itself, 254 all that is looked at before it and is
+ * in no argument (the memory's size, a lent length, the manifest, the state). 0 is the topic when a module call's code is -5, and
+ * nothing otherwise: look at the code first.
+ *
  * WHAT THE PROMISES BUILD ON. What a function answers, and what it leaves in each lent byte, is proved for every state and
  * every byte, whoever made them. Promises 2 and 3 (docs/PROMISES.md: what an outcome means, and that what was committed can be
  * had again, whole and in order) speak of a box over its whole life, and of one in which nobody but these functions changes the
@@ -74,6 +80,27 @@ enum {
     LOAFHERON_BAD = -5,       /* bad argument, lent length, state or manifest */
     LOAFHERON_BUDGET = -6,    /* this and all later module calls of the weave */
     LOAFHERON_BAD_VALUE = -7  /* value type or content */
+};
+
+/* What `field` is when a module call is refused with -5. The same number is another field in another call. */
+enum {
+    /* of every module call */
+    LOAFHERON_FIELD_BEFORE = 254,  /* no field: memory too large, other lengths than at mount, bad manifest, bad state */
+    LOAFHERON_FIELD_RECORD = 255,  /* no field: the record's own address, no multiple of 8, or its bytes not inside memory */
+    /* of loafheron_write */
+    LOAFHERON_WRITE_TOPIC = 0,     /* its span, its length or its bytes */
+    LOAFHERON_WRITE_DATA = 16,     /* (data, len) not inside memory, so a len that is too large is here too; a value's address no
+                                    * multiple of 8; its string's or byte array's span */
+    LOAFHERON_WRITE_LEN = 24,      /* of a value: the span is inside memory, but len is not 32 */
+    LOAFHERON_WRITE_FLAGS = 32,    /* none of 1, 2, 9 and 10; looked at before data and len */
+    /* of loafheron_read */
+    LOAFHERON_READ_TOPIC = 0,
+    LOAFHERON_READ_OUT_PTR = 24,   /* no multiple of 8, or the span (out_ptr, out_cap) not inside memory */
+    /* of loafheron_open */
+    LOAFHERON_OPEN_TOPIC = 0,      /* the filter */
+    LOAFHERON_OPEN_DESC = 40,      /* above 1 */
+    /* of loafheron_next */
+    LOAFHERON_NEXT_OUT_PTR = 8     /* no multiple of 8, or the span (out_ptr, buf_cap) not inside memory */
 };
 
 /* Room for one open cursor, and what it still has to list. */
@@ -122,6 +149,7 @@ typedef struct {
 typedef struct {
     int64_t code;
     uint64_t value;
+    uint64_t field; /* with a module call's -5: which field it is for (LOAFHERON_WRITE_DATA ..), and 0 is the topic; else 0 */
     loafheron_state state;
 } loafheron_answer;
 
@@ -157,7 +185,9 @@ LOAFHERON_ASSERT(sizeof(loafheron_state) == LOAFHERON_STATE_SIZE, "loafheron_sta
 LOAFHERON_ASSERT(offsetof(loafheron_state, trace) == 128, "loafheron_state.trace");
 LOAFHERON_ASSERT(offsetof(loafheron_state, rooms) == 160, "loafheron_state.rooms");
 LOAFHERON_ASSERT(sizeof(loafheron_mounted) == 624, "loafheron_mounted");
-LOAFHERON_ASSERT(sizeof(loafheron_answer) == 624, "loafheron_answer");
+LOAFHERON_ASSERT(sizeof(loafheron_answer) == 632, "loafheron_answer");
+LOAFHERON_ASSERT(offsetof(loafheron_answer, field) == 16, "loafheron_answer.field");
+LOAFHERON_ASSERT(offsetof(loafheron_answer, state) == 24, "loafheron_answer.state");
 LOAFHERON_ASSERT(sizeof(loafheron_outcome) == 32, "loafheron_outcome");
 LOAFHERON_ASSERT(sizeof(loafheron_returned) == 640, "loafheron_returned");
 LOAFHERON_ASSERT(sizeof(loafheron_place) == 24, "loafheron_place");
@@ -175,14 +205,15 @@ loafheron_mounted loafheron_mount(const uint8_t *staging, size_t staging_len, co
                                   const uint8_t *manifest, size_t manifest_len, uint64_t used);
 
 /* Begin a weave. `args`: the 128 bytes of FilamentWeaveArgs; used are res_max at 24, virt_time at 48, trace at 56.
- * Answers 0: staging is all 0, module 1 has its turn. -5, -2 (a weave is running), -1 (faulted): nothing changes. */
+ * Answers 0: staging is all 0, module 1 has its turn. -5, -2 (a weave is running), -1 (faulted): nothing changes. Begin is no
+ * module call: it names no field, not even with -5. */
 LOAFHERON_KEEP
 loafheron_answer loafheron_begin(loafheron_state state, uint8_t *staging, size_t staging_len, const uint8_t *card,
                                  size_t card_len, const uint8_t *manifest, size_t manifest_len, const uint8_t *args,
                                  size_t args_len);
 
 /* Ingress: the box itself stages an event, before the first accepted module call or return of the weave.
- * Answers 0. No grant, no charge. -5, -2 (no weave, or too late), -4. */
+ * Answers 0. No grant, no charge. -5, -2 (no weave, or too late), -4. No module call either: no field. */
 LOAFHERON_KEEP
 loafheron_answer loafheron_ingress(loafheron_state state, uint8_t *staging, size_t staging_len, const uint8_t *card,
                                    size_t card_len, const uint8_t *manifest, size_t manifest_len, const uint8_t *topic,
@@ -190,11 +221,13 @@ loafheron_answer loafheron_ingress(loafheron_state state, uint8_t *staging, size
 
 /* The module calls. `at` is the address of the argument record in the module's memory. The module's answer is the code
  * where it is below 0, else the value. Each may be refused with -5 (a bad argument, length, state or manifest), -2 (no weave is
- * running), -6 (the budget: this and all later ones of the weave) and -1 (after a panic). What stands at each is what it has
- * besides. */
+ * running), -6 (the budget: this and all later ones of the weave) and -1 (after a panic). With -5 each may give
+ * LOAFHERON_FIELD_BEFORE, which is looked at first, or LOAFHERON_FIELD_RECORD. What stands at each is what it has besides, its
+ * fields in the order in which they are looked at. */
 
 /* filament_write, 40 bytes: answers 0 and stages one record (it is saved only if the weave is committed). A write to
- * filament/core/panic answers 0, stages nothing, and spoils the weave. -1: no `out` grant. -7: the value. -4: no room. */
+ * filament/core/panic answers 0, stages nothing, and spoils the weave. -1: no `out` grant. -7: the value. -4: no room.
+ * Field of a -5: topic, flags, data, len; data again for a span inside a value. */
 LOAFHERON_KEEP
 loafheron_answer loafheron_write(loafheron_state state, const uint8_t *memory, size_t memory_len, uint8_t *staging,
                                  size_t staging_len, const uint8_t *card, size_t card_len, const uint8_t *manifest,
@@ -202,26 +235,28 @@ loafheron_answer loafheron_write(loafheron_state state, const uint8_t *memory, s
 
 /* filament_read, 40 bytes: the staged events with exactly that topic, as many whole records as fit. Answers the bytes
  * written to memory, 0 when none is left. -1: no `in` grant. -3: staged part not sound. -4: the out buffer is shorter than the
- * next record. */
+ * next record. Field of a -5: topic, out_ptr. */
 LOAFHERON_KEEP
 loafheron_answer loafheron_read(loafheron_state state, uint8_t *memory, size_t memory_len, const uint8_t *staging,
                                 size_t staging_len, const uint8_t *card, size_t card_len, const uint8_t *manifest,
                                 size_t manifest_len, uint64_t at);
 
-/* filament_tl_open, 48 bytes: answers the handle. -4: 4 are open, or 65,535 have been opened. */
+/* filament_tl_open, 48 bytes: answers the handle. -4: 4 are open, or 65,535 have been opened. Field of a -5: topic (the filter),
+ * desc. */
 LOAFHERON_KEEP
 loafheron_answer loafheron_open(loafheron_state state, const uint8_t *memory, size_t memory_len, const uint8_t *staging,
                                 size_t staging_len, const uint8_t *card, size_t card_len, const uint8_t *manifest,
                                 size_t manifest_len, uint64_t at);
 
 /* filament_tl_next, 24 bytes: the longest run of remaining records that fits whole. Answers the bytes written to memory,
- * 0 at the end of the list. -2: handle not open. -3: card not sound. -4: the out buffer is shorter than the next record. */
+ * 0 at the end of the list. -2: handle not open. -3: card not sound. -4: the out buffer is shorter than the next record.
+ * Field of a -5: out_ptr. */
 LOAFHERON_KEEP
 loafheron_answer loafheron_next(loafheron_state state, uint8_t *memory, size_t memory_len, const uint8_t *staging,
                                 size_t staging_len, const uint8_t *card, size_t card_len, const uint8_t *manifest,
                                 size_t manifest_len, uint64_t at);
 
-/* filament_tl_close, 8 bytes: answers 0. -2: handle not open. */
+/* filament_tl_close, 8 bytes: answers 0. -2: handle not open. No field of its own: a handle that is not open is -2 and no -5. */
 LOAFHERON_KEEP
 loafheron_answer loafheron_close(loafheron_state state, const uint8_t *memory, size_t memory_len, const uint8_t *staging,
                                  size_t staging_len, const uint8_t *card, size_t card_len, const uint8_t *manifest,

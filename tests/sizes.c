@@ -11,7 +11,7 @@
 enum { STAGING = 65536, ROOM = 4096 };
 
 static const char manifest[] = "modules\t1\n";
-static uint8_t staging[STAGING], card[8], args[128], into[2][ROOM];
+static uint8_t staging[STAGING], card[8], args[128], memory[64], into[2][ROOM];
 
 #define LENT staging, STAGING, card, sizeof card, (const uint8_t *)manifest, sizeof manifest - 1
 #define TYPES uint8_t *, size_t, uint8_t *, size_t, const uint8_t *, size_t
@@ -19,6 +19,7 @@ static uint8_t staging[STAGING], card[8], args[128], into[2][ROOM];
 /* The same functions, their hidden pointer in sight. (They are called by a variable, so that the compiler does not object.) */
 typedef void mount_into(void *, TYPES, uint64_t);
 typedef void begin_into(void *, loafheron_state, TYPES, const uint8_t *, size_t);
+typedef void write_into(void *, loafheron_state, const uint8_t *, size_t, TYPES, uint64_t);
 typedef void return_into(void *, loafheron_state, TYPES, int64_t);
 typedef void look_up_into(void *, loafheron_state, TYPES, uint64_t);
 
@@ -64,6 +65,14 @@ int main(void) {
     is("loafheron_answer", written(), sizeof(loafheron_answer));
     loafheron_answer begun = loafheron_begin(m.state, LENT, args, sizeof args);
     is("the code of begin, which finds its arguments behind the state", (uint64_t)begun.code, 0);
+    /* a record at 9, which is no multiple of 8: the field is 255, and no other number of the answer is */
+    MEASURE(write_into, loafheron_write, begun.state, memory, sizeof memory, LENT, 9);
+    is("loafheron_answer, of a module call", written(), sizeof(loafheron_answer));
+    loafheron_answer refused = loafheron_write(begun.state, memory, sizeof memory, LENT, 9);
+    is("the code of a refused write, without its sign", (uint64_t)-refused.code, -LOAFHERON_BAD);
+    is("its value", refused.value, 0);
+    is("its field", refused.field, LOAFHERON_FIELD_RECORD);
+    is("1 where its state is the one that went in", memcmp(&refused.state, &begun.state, sizeof begun.state) == 0, 1);
     MEASURE(return_into, loafheron_return, begun.state, LENT, -3);
     is("loafheron_returned", written(), sizeof(loafheron_returned));
     MEASURE(look_up_into, loafheron_look_up, begun.state, LENT, 1);

@@ -9,32 +9,78 @@
 #define MANIFEST(b) (const uint8_t *)(b)->manifest, strlen((b)->manifest)
 #define LENT(b) (b)->staging, STAGING, (b)->card, (b)->card_len, MANIFEST(b)
 
-/* What a module call is answered: the code where it is below 0, else the value. The box keeps the next state. */
-static uint64_t settle(box *b, const char *call, loafheron_answer a) {
+/* The name of the field that a -5 is for. The same number is another field in another call, so each call has its own. */
+typedef const char *field_name(uint64_t field);
+
+static const char *any_field(uint64_t field) {
+    switch (field) {
+    case LOAFHERON_FIELD_BEFORE: return "not the arguments";
+    case LOAFHERON_FIELD_RECORD: return "the arguments' address";
+    default: fprintf(stderr, "a field %" PRIu64 ", which is none of this call\n", field); exit(1);
+    }
+}
+
+static const char *write_field(uint64_t field) {
+    switch (field) {
+    case LOAFHERON_WRITE_TOPIC: return "topic";
+    case LOAFHERON_WRITE_DATA: return "data";
+    case LOAFHERON_WRITE_LEN: return "len";
+    case LOAFHERON_WRITE_FLAGS: return "flags";
+    default: return any_field(field);
+    }
+}
+
+static const char *read_field(uint64_t field) {
+    switch (field) {
+    case LOAFHERON_READ_TOPIC: return "topic";
+    case LOAFHERON_READ_OUT_PTR: return "out_ptr";
+    default: return any_field(field);
+    }
+}
+
+static const char *open_field(uint64_t field) {
+    switch (field) {
+    case LOAFHERON_OPEN_TOPIC: return "topic";
+    case LOAFHERON_OPEN_DESC: return "desc";
+    default: return any_field(field);
+    }
+}
+
+static const char *next_field(uint64_t field) {
+    return field == LOAFHERON_NEXT_OUT_PTR ? "out_ptr" : any_field(field);
+}
+
+/* What a module call is answered: the code where it is below 0, else the value. The field of a -5 is printed beside it: it is
+ * for whoever reads along, and the module is not told. The box keeps the next state. */
+static uint64_t settle(box *b, const char *call, field_name *name, loafheron_answer a) {
     int64_t answer = a.code < 0 ? a.code : (int64_t)a.value;
     b->state = a.state;
-    printf("  %s %" PRId64 "\n", call, answer);
+    printf("  %s %" PRId64, call, answer);
+    if (a.code == LOAFHERON_BAD) {
+        printf(" (%s)", name(a.field));
+    }
+    printf("\n");
     return (uint64_t)answer;
 }
 
 uint64_t Z_filamentZ_filament_write(box *b, uint64_t at) {
-    return settle(b, "write", loafheron_write(b->state, b->memory->data, b->memory->size, LENT(b), at));
+    return settle(b, "write", write_field, loafheron_write(b->state, b->memory->data, b->memory->size, LENT(b), at));
 }
 
 uint64_t Z_filamentZ_filament_read(box *b, uint64_t at) {
-    return settle(b, "read", loafheron_read(b->state, b->memory->data, b->memory->size, LENT(b), at));
+    return settle(b, "read", read_field, loafheron_read(b->state, b->memory->data, b->memory->size, LENT(b), at));
 }
 
 uint64_t Z_filamentZ_filament_tl_open(box *b, uint64_t at) {
-    return settle(b, "tl_open", loafheron_open(b->state, b->memory->data, b->memory->size, LENT(b), at));
+    return settle(b, "tl_open", open_field, loafheron_open(b->state, b->memory->data, b->memory->size, LENT(b), at));
 }
 
 uint64_t Z_filamentZ_filament_tl_next(box *b, uint64_t at) {
-    return settle(b, "tl_next", loafheron_next(b->state, b->memory->data, b->memory->size, LENT(b), at));
+    return settle(b, "tl_next", next_field, loafheron_next(b->state, b->memory->data, b->memory->size, LENT(b), at));
 }
 
 uint64_t Z_filamentZ_filament_tl_close(box *b, uint64_t at) {
-    return settle(b, "tl_close", loafheron_close(b->state, b->memory->data, b->memory->size, LENT(b), at));
+    return settle(b, "tl_close", any_field, loafheron_close(b->state, b->memory->data, b->memory->size, LENT(b), at));
 }
 
 int64_t box_mount(box *b, size_t card_len, uint64_t used) {

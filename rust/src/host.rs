@@ -1,10 +1,13 @@
 //! A safe owner: the box's state and its buffers in one place, and every operation of the archive over them.
 use crate::lent::{self, Caller, Here, Place};
-pub use crate::lent::{Buffers, Fate};
+pub use crate::lent::{Buffers, Fate, Field, ModuleCall, Refusal};
 use crate::raw::{self, State};
 
-/// What a call answers: a number that is 0 or more, or document 01's code.
+/// What begin and ingress answer: a number that is 0 or more, or document 01's code.
 pub type Answer = Result<u64, i64>;
+
+/// What a module call (write, read, open, next, close) answers: a number that is 0 or more, or why it was refused.
+pub type ModuleAnswer = Result<u64, Refusal>;
 
 /// A refused mount: its code and, with -3, the offset of the first record not sound. The buffers are handed back.
 #[derive(Debug)]
@@ -22,6 +25,9 @@ pub struct Refused {
 ///
 /// Module calls spend the weave's units: a write 1 + total_len / 8, read and next 1 + bytes written / 8, open and close 1. The manifest's second line
 /// may be `charge`, a tab, and 1 or 2: under 2 a write costs 4 + total_len / 64, rounded up; 1 is as without the line. Any other charge line is -5.
+///
+/// A module call that is refused with -5 says for which field: [`Refusal::Bad`]. It is the first that failed, in the order of the checks. The
+/// module itself is answered the code alone, [`Refusal::code`]; the field is for whoever reads along.
 pub struct Host {
     archive: Here,
     state: State,
@@ -69,24 +75,25 @@ impl Host {
         self.settle(|archive, state, b| archive.ingress(state, b, topic, payload))
     }
 
-    pub fn write(&mut self, memory: &[u8], at: u64) -> Answer {
-        self.settle(|archive, state, b| archive.write(state, memory, b, at))
+    /// The argument record lies at `at` in the module's memory, here and in the four calls below.
+    pub fn write(&mut self, memory: &[u8], at: u64) -> ModuleAnswer {
+        self.settle_module(ModuleCall::Write, |archive, state, b| archive.write(state, memory, b, at))
     }
 
-    pub fn read(&mut self, memory: &mut [u8], at: u64) -> Answer {
-        self.settle(|archive, state, b| archive.read(state, memory, b, at))
+    pub fn read(&mut self, memory: &mut [u8], at: u64) -> ModuleAnswer {
+        self.settle_module(ModuleCall::Read, |archive, state, b| archive.read(state, memory, b, at))
     }
 
-    pub fn open(&mut self, memory: &[u8], at: u64) -> Answer {
-        self.settle(|archive, state, b| archive.open(state, memory, b, at))
+    pub fn open(&mut self, memory: &[u8], at: u64) -> ModuleAnswer {
+        self.settle_module(ModuleCall::Open, |archive, state, b| archive.open(state, memory, b, at))
     }
 
-    pub fn next(&mut self, memory: &mut [u8], at: u64) -> Answer {
-        self.settle(|archive, state, b| archive.next(state, memory, b, at))
+    pub fn next(&mut self, memory: &mut [u8], at: u64) -> ModuleAnswer {
+        self.settle_module(ModuleCall::Next, |archive, state, b| archive.next(state, memory, b, at))
     }
 
-    pub fn close(&mut self, memory: &[u8], at: u64) -> Answer {
-        self.settle(|archive, state, b| archive.close(state, memory, b, at))
+    pub fn close(&mut self, memory: &[u8], at: u64) -> ModuleAnswer {
+        self.settle_module(ModuleCall::Close, |archive, state, b| archive.close(state, memory, b, at))
     }
 
     pub fn module_return(&mut self, code: i64) -> Fate {
@@ -107,8 +114,21 @@ impl Host {
     }
 
     fn settle(&mut self, call: impl FnOnce(&Here, State, &mut Buffers) -> raw::Answer) -> Answer {
+        lent::answer(&self.kept(call))
+    }
+
+    fn settle_module(
+        &mut self,
+        which: ModuleCall,
+        call: impl FnOnce(&Here, State, &mut Buffers) -> raw::Answer,
+    ) -> ModuleAnswer {
+        lent::module_answer(which, &self.kept(call))
+    }
+
+    /// A call, and the state that it hands back is the next one's.
+    fn kept(&mut self, call: impl FnOnce(&Here, State, &mut Buffers) -> raw::Answer) -> raw::Answer {
         let a = call(&self.archive, self.state, &mut self.buffers);
         self.state = a.state;
-        lent::answer(&a)
+        a
     }
 }

@@ -16,13 +16,18 @@
 //! A weave has the units that begin gives it; a module call that would cost more than is left is -6. What each costs, and the manifest's
 //! line `charge`, which names one of two rules for writes, is told at [`host::Host`].
 //!
+//! # Which field was it?
+//!
+//! A module call that is refused with -5 says which field of its argument record failed first: [`host::Refusal`] has the code and
+//! the field, and prints both, as in `-5 (out_ptr)`. Begin, ingress and return are no module calls; they have their code alone.
+//!
 //! # On which machines
 //!
 //! The archive is for x86-64, where it is linked. On other machines it runs in a program of its own, by an emulator, which is told its
 //! calls through a pipe: there this crate is for trying the archive, not for use.
 //!
 //! ```
-//! use loafheron::host::{Buffers, Fate, Host};
+//! use loafheron::host::{Buffers, Fate, Field, Host, Refusal};
 //!
 //! let manifest = b"modules\t1\ngrant\t1\tout\tloop/take\n".to_vec();
 //! let buffers = Buffers { staging: vec![0; 65_536], card: vec![0; 65_536], manifest };
@@ -32,6 +37,9 @@
 //! assert_eq!(host.begin(&weave), Ok(0));
 //! assert_eq!(host.ingress(b"loop/take", b"verse"), Ok(0));
 //! assert_eq!(host.used().len(), 0); // staged is not saved
+//! let memory = [0; 64]; // of a module whose argument record is all 0: its topic is empty
+//! assert_eq!(host.write(&memory, 8), Err(Refusal::Bad(Field::Topic)));
+//! assert_eq!(host.write(&memory, 9).unwrap_err().to_string(), "-5 (the arguments' address)");
 //! assert_eq!(host.module_return(0), Fate::Committed { events: 1, bytes: 152 });
 //! assert_eq!(&host.look_up(1)[144..149], b"verse");
 //! ```

@@ -1,4 +1,5 @@
 //! The archive as include/loafheron.h has it: structs of plain numbers, and a slice as a pointer and a length.
+use std::mem::offset_of;
 
 #[repr(C)]
 #[derive(Clone, Copy, Debug, PartialEq, Eq)]
@@ -50,6 +51,8 @@ pub struct Mounted {
 pub struct Answer {
     pub code: i64,
     pub value: u64,
+    /// with a module call's -5 which field it is for, else 0; [`crate::host::Field`] has the names
+    pub field: u64,
     pub state: State,
 }
 
@@ -111,7 +114,8 @@ impl State {
 
 // The same numbers stand in include/loafheron.h; tests/sizes measures them in the archive.
 const _: () = assert!(size_of::<Room>() == 112 && size_of::<State>() == 608);
-const _: () = assert!(size_of::<Mounted>() == 624 && size_of::<Answer>() == 624);
+const _: () = assert!(size_of::<Mounted>() == 624 && size_of::<Answer>() == 632);
+const _: () = assert!(offset_of!(Answer, field) == 16 && offset_of!(Answer, state) == 24);
 const _: () = assert!(size_of::<Outcome>() == 32 && size_of::<Returned>() == 640 && size_of::<Place>() == 24);
 
 // The archive itself, where it is linked: on x86-64.

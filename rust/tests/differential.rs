@@ -12,6 +12,7 @@ fn the_host_and_its_twin_agree() {
     assert!(CALLS <= run.calls);
     every_answer_came_up(&run);
     both_charges_came_up(&run);
+    every_field_came_up(&run);
 }
 
 fn all_said(run: &differ::Run, call: &'static str, answers: &[&str]) {
@@ -32,6 +33,37 @@ fn both_charges_came_up(run: &differ::Run) {
     for call in calls {
         all_said(run, call, &["refused for charge"]);
     }
+}
+
+/// What a -5 of each module call may be for (02, A5), in the order of the checks, by the words of the tally.
+const FIELDS: [(&str, &[&str]); 5] = [
+    ("write", &["before", "record", "topic", "flags", "data", "len"]),
+    ("read", &["before", "record", "topic", "out_ptr"]),
+    ("tl_open", &["before", "record", "topic", "desc"]),
+    ("tl_next", &["before", "record", "out_ptr"]),
+    ("tl_close", &["before", "record"]),
+];
+
+/// Each -5 was for each of its fields: for it alone, and with each later one bad too. (Where the record cannot be read it is the last.)
+fn every_field_came_up(run: &differ::Run) {
+    for (call, fields) in FIELDS {
+        for (n, field) in fields.iter().enumerate() {
+            all_said(run, call, &[&format!("-5, {field}"), &format!("-5, {field} alone")]);
+            for later in &fields[n + 1..] {
+                if *field != "record" {
+                    all_said(run, call, &[&format!("-5, {field}, then {later}")]);
+                }
+            }
+        }
+        all_said(run, call, &["0, no field", "-1, no field", "-2, no field", "-6, no field"]);
+    }
+    all_said(run, "write", &["-5, inside a value", "-4, no field", "-7, no field"]);
+    all_said(run, "read", &["-3, no field", "-4, no field"]);
+    all_said(run, "tl_open", &["-4, no field"]);
+    all_said(run, "tl_next", &["-3, no field", "-4, no field"]);
+    // of the twin itself: another code has no field
+    let other = run.tally.keys().find(|(_, answer)| answer.contains("the field"));
+    assert_eq!(other, None, "a field beside another code than -5");
 }
 
 /// A run that never saw an answer says nothing about it: each code of each operation came up, and byte 127 wherever a topic stands.

@@ -1,9 +1,9 @@
 // A caller who keeps everything that he is answered. With `--cfg drops_return` he drops what return says, and so with the others.
 #![deny(unused_must_use)]
 #![allow(unexpected_cfgs)]
-use loafheron::host::{Answer, Buffers, Fate, Host};
+use loafheron::host::{Answer, Buffers, Fate, Host, ModuleAnswer};
 
-fn caller(host: &mut Host, memory: &mut [u8]) -> ([Answer; 7], Fate, usize) {
+fn caller(host: &mut Host, memory: &mut [u8]) -> ([Answer; 2], [ModuleAnswer; 5], Fate, usize) {
     #[cfg(drops_begin)]
     host.begin(&[0; 128]);
     #[cfg(drops_ingress)]
@@ -22,16 +22,15 @@ fn caller(host: &mut Host, memory: &mut [u8]) -> ([Answer; 7], Fate, usize) {
     host.module_return(0);
     #[cfg(drops_look_up)]
     host.look_up(1);
-    let answers = [
-        host.begin(&[0; 128]),
-        host.ingress(b"loop/take", b""),
+    let answers = [host.begin(&[0; 128]), host.ingress(b"loop/take", b"")];
+    let to_the_module = [
         host.write(memory, 8),
         host.read(memory, 8),
         host.open(memory, 8),
         host.next(memory, 8),
         host.close(memory, 8),
     ];
-    (answers, host.module_return(0), host.look_up(1).len())
+    (answers, to_the_module, host.module_return(0), host.look_up(1).len())
 }
 
 fn main() {

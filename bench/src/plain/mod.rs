@@ -1,6 +1,6 @@
 //! The other side: the same operations in plain Rust, written as one would write them, with the same checks of documents 01
-//! and 02 in the same order as far as these calls meet them. Nothing is left out that the proved host does: the manifest is read at
-//! every call, next and the last return walk all the records they speak of.
+//! and 02 in the same order as far as these calls meet them. The manifest is read at every call, next and the last return walk all the
+//! records they speak of. Only the field of a -5 is left out, as no call that is measured is refused.
 mod bytes;
 mod calls;
 mod manifest;

@@ -46,7 +46,7 @@ fn main() -> ExitCode {
         return ExitCode::FAILURE;
     }
     for ((call, answer), n) in &run.tally {
-        println!("{call:8} {answer:21} {n:9}");
+        println!("{call:8} {answer:24} {n:9}");
     }
     println!(
         "seed {seed}: {} calls in {} lives, no difference ({:.1} s)",

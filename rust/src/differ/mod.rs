@@ -3,6 +3,7 @@ mod asks;
 mod charge;
 mod del;
 mod dice;
+mod field;
 mod lives;
 mod stock;
 mod twin;

@@ -1,7 +1,7 @@
 //! The model and the archive side by side: one call goes to both, and everything is compared.
-use super::{charge, del, view};
-use crate::lent::{self, Buffers, Caller, Fate, Place};
-use crate::model::{self, Lent, State};
+use super::{charge, del, field, view};
+use crate::lent::{self, Buffers, Caller, Fate, ModuleCall, Place};
+use crate::model::{self, Fault, Lent, State};
 use crate::raw;
 use std::collections::BTreeMap;
 use std::rc::Rc;
@@ -24,7 +24,7 @@ pub enum Call {
 #[derive(Clone, Copy, Debug, PartialEq, Eq)]
 pub enum Said {
     Mounted { code: i64, at: u64 },
-    Answer { code: i64, value: u64 },
+    Answer { code: i64, value: u64, field: u64 },
     Fate(Fate),
     Place(Place),
 }
@@ -43,7 +43,7 @@ pub struct Difference(pub String);
 
 pub type Agreed<T> = Result<T, Difference>;
 
-/// How often each operation gave each answer; and among these, how often byte 127 or a charge rule had to do with it.
+/// How often each operation gave each answer; and among these, how often byte 127 or a charge rule had to do with it, and for which field a -5 was.
 pub type Tally = BTreeMap<(&'static str, String), u64>;
 
 pub struct Twin {
@@ -122,12 +122,6 @@ impl Twin {
         let models = models(&mut self.state, &mut self.lent, &call);
         let (ours, state) = self.ours(&call, before);
         self.calls += 1;
-        let del = del::met(&call, &models, cursor, &self.state, &self.lent);
-        let charge = self.charged.met(&call, &models, &was, &self.state, &self.lent);
-        let met = del.into_iter().chain(charge).map(String::from);
-        for what in std::iter::once(short(&models)).chain(met) {
-            *self.tally.entry((name(&call), what)).or_insert(0) += 1;
-        }
         if self.aloud {
             println!("       {models:?}");
         }
@@ -139,6 +133,13 @@ impl Twin {
         self.compare(o.staging == m.staging, || bytes("staging", &m.staging, &o.staging), &call)?;
         self.compare(o.card == m.card, || bytes("card", &m.card, &o.card), &call)?;
         self.compare(o.manifest == m.manifest, || bytes("manifest", &m.manifest, &o.manifest), &call)?;
+        let del = del::met(&call, &models, cursor, &self.state, &self.lent);
+        let charge = self.charged.met(&call, &models, &was, &self.state, &self.lent);
+        let field = field::met(&call, &models, &self.state, &self.lent);
+        let met = del.into_iter().chain(charge).map(String::from).chain(field);
+        for what in std::iter::once(short(&models)).chain(met) {
+            *self.tally.entry((name(&call), what)).or_insert(0) += 1;
+        }
         Ok(models)
     }
 
@@ -172,7 +173,32 @@ impl Twin {
             Call::Next { at } => archive.next(state, memory, b, *at),
             Call::Close { at } => archive.close(state, memory, b, *at),
         };
-        (Said::Answer { code: a.code, value: a.value }, a.state)
+        (Said::Answer { code: a.code, value: a.value, field: a.field }, a.state)
+    }
+}
+
+impl Call {
+    /// This module call, its argument record at `at`.
+    pub fn of_a_module(call: ModuleCall, at: u64) -> Call {
+        match call {
+            ModuleCall::Write => Call::Write { at },
+            ModuleCall::Read => Call::Read { at },
+            ModuleCall::Open => Call::Open { at },
+            ModuleCall::Next => Call::Next { at },
+            ModuleCall::Close => Call::Close { at },
+        }
+    }
+
+    /// Which module call this is and where its argument record lies, if it is one.
+    pub fn module(&self) -> Option<(ModuleCall, u64)> {
+        match self {
+            Call::Write { at } => Some((ModuleCall::Write, *at)),
+            Call::Read { at } => Some((ModuleCall::Read, *at)),
+            Call::Open { at } => Some((ModuleCall::Open, *at)),
+            Call::Next { at } => Some((ModuleCall::Next, *at)),
+            Call::Close { at } => Some((ModuleCall::Close, *at)),
+            _ => None,
+        }
     }
 }
 
@@ -187,8 +213,11 @@ pub fn models(state: &mut State, lent: &mut Lent, call: &Call) -> Said {
         }
         Call::Return { code } => return Said::Fate(plain(state.module_return(lent, *code))),
         Call::LookUp { id } => return Said::Place(plain_place(state.look_up(lent, *id))),
-        Call::Begin { args } => state.begin(lent, args),
-        Call::Ingress { topic, payload } => state.ingress(lent, topic, payload),
+        // no module calls: their -5 has no field
+        Call::Begin { args } => state.begin(lent, args).map_err(|code| Fault { code, field: 0 }),
+        Call::Ingress { topic, payload } => {
+            state.ingress(lent, topic, payload).map_err(|code| Fault { code, field: 0 })
+        }
         Call::Write { at } => state.write(lent, *at),
         Call::Read { at } => state.read(lent, *at),
         Call::Open { at } => state.open(lent, *at),
@@ -196,8 +225,8 @@ pub fn models(state: &mut State, lent: &mut Lent, call: &Call) -> Said {
         Call::Close { at } => state.close(lent, *at),
     };
     match answer {
-        Ok(value) => Said::Answer { code: 0, value },
-        Err(code) => Said::Answer { code, value: 0 },
+        Ok(value) => Said::Answer { code: 0, value, field: 0 },
+        Err(Fault { code, field }) => Said::Answer { code, value: 0, field },
     }
 }
 
@@ -238,7 +267,7 @@ fn name(call: &Call) -> &'static str {
 fn short(said: &Said) -> String {
     match said {
         Said::Mounted { code, .. } => format!("{code}"),
-        Said::Answer { code: 0, value: 0 } => "0".into(),
+        Said::Answer { code: 0, value: 0, .. } => "0".into(),
         Said::Answer { code: 0, .. } => "above 0".into(),
         Said::Answer { code, .. } => format!("{code}"),
         Said::Fate(Fate::Refused(code)) => format!("{code}"),

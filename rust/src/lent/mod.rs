@@ -1,11 +1,13 @@
 //! The archive's functions over slices. They are safe for every state and all bytes, as none of them requires anything. But who calls
 //! them holds the state himself: he can use one twice, or lend other buffers, and then the promises say nothing. So only the owner
 //! ([`crate::host`]) and the differential run see them.
+mod field;
 #[cfg(linked)]
 mod linked;
 mod piped;
 
 use crate::raw::{self, State};
+pub use field::{Field, ModuleCall, Refusal};
 #[cfg(linked)]
 pub use linked::Linked;
 pub use piped::Piped;
@@ -53,11 +55,22 @@ pub fn refusal(code: i64) -> i64 {
     }
 }
 
-/// What a call answers: a number that is 0 or more, or document 01's code.
+/// What begin and ingress answer: a number that is 0 or more, or document 01's code. They are no module calls and name no field.
 pub fn answer(a: &raw::Answer) -> Result<u64, i64> {
+    if a.field != 0 {
+        panic!("the archive answered the field {} beside the code {}, which has none", a.field, a.code);
+    }
     match a.code {
         0 => Ok(a.value),
         code => Err(refusal(code)),
+    }
+}
+
+/// What a module call answers: a number that is 0 or more, or why it was refused.
+pub fn module_answer(call: ModuleCall, a: &raw::Answer) -> Result<u64, Refusal> {
+    match a.code {
+        -5 => Err(Refusal::Bad(call.field(a.field))),
+        _ => answer(a).map_err(Refusal::Code),
     }
 }
 
@@ -133,19 +146,81 @@ mod tests {
 
     #[test]
     fn each_code_is_its_own_and_any_other_is_a_panic_that_says_which() {
-        let answer_of = |code| answer(&raw::Answer { code, value: 9, state: State::NONE });
+        let answer_of = |code| answer(&answered(code, 0));
         assert_eq!(answer_of(0), Ok(9));
         for code in -7..=-1 {
             assert_eq!(answer_of(code), Err(code));
         }
         for code in [1, 2, -8, i64::MAX, i64::MIN] {
-            let why = said(move || answer_of(code));
-            assert!(why.contains(&format!("code {code},")), "{why}");
+            for why in
+                [said(move || answer_of(code)), said(move || module_answer(ModuleCall::Read, &answered(code, 0)))]
+            {
+                assert!(why.contains(&format!("code {code},")), "{why}");
+            }
         }
         // a refusal or a discard has a code below 0
         for kind in [0, 1] {
             assert!(said(move || fate(outcome(kind, 0))).contains("code 0,"));
         }
+    }
+
+    fn answered(code: i64, field: u64) -> raw::Answer {
+        raw::Answer { code, value: 9, field, state: State::NONE }
+    }
+
+    /// 02, A5, call by call: "a topic counts as offset 0, a span as its pointer", 255 and 254.
+    #[test]
+    fn each_field_is_its_own_and_any_other_is_a_panic_that_says_which() {
+        use Field::*;
+        let named = [
+            (ModuleCall::Write, &[(254, Before), (255, Record), (0, Topic), (32, Flags), (16, Data), (24, Len)][..]),
+            (ModuleCall::Read, &[(254, Before), (255, Record), (0, Topic), (24, OutPtr)]),
+            (ModuleCall::Open, &[(254, Before), (255, Record), (0, Topic), (40, Desc)]),
+            (ModuleCall::Next, &[(254, Before), (255, Record), (8, OutPtr)]),
+            (ModuleCall::Close, &[(254, Before), (255, Record)]),
+        ];
+        for (call, fields) in named {
+            for number in (0..=300).chain([1 << 32, (1 << 32) + 16, u64::MAX]) {
+                match fields.iter().find(|(n, _)| *n == number) {
+                    Some((_, field)) => {
+                        assert_eq!(module_answer(call, &answered(-5, number)), Err(Refusal::Bad(*field)));
+                        assert_eq!(field.number(call), Some(number));
+                    }
+                    None => {
+                        let why = said(move || module_answer(call, &answered(-5, number)));
+                        assert!(why.contains(&format!("field {number} of a {call},")), "{why}");
+                    }
+                }
+            }
+        }
+    }
+
+    /// What is accepted, what is refused with another code, and what is no module call.
+    #[test]
+    fn a_field_where_there_is_none_is_a_panic_that_says_which() {
+        for call in ModuleCall::ALL {
+            assert_eq!(module_answer(call, &answered(0, 0)), Ok(9));
+            for code in [-7, -6, -4, -3, -2, -1] {
+                assert_eq!(module_answer(call, &answered(code, 0)), Err(Refusal::Code(code)));
+            }
+            for code in [-7, -6, -4, -3, -2, -1, 0] {
+                let why = said(move || module_answer(call, &answered(code, 255)));
+                assert!(why.contains(&format!("field 255 beside the code {code},")), "{why}");
+            }
+        }
+        for code in -7..=0 {
+            let why = said(move || answer(&answered(code, 16)));
+            assert!(why.contains(&format!("field 16 beside the code {code},")), "{why}");
+        }
+    }
+
+    #[test]
+    fn a_refusal_says_its_code_and_its_field() {
+        let (bad, budget) = (Refusal::Bad(Field::OutPtr), Refusal::Code(-6));
+        assert_eq!((bad.code(), bad.field()), (-5, Some(Field::OutPtr)));
+        assert_eq!((budget.code(), budget.field()), (-6, None));
+        assert_eq!((bad.to_string(), budget.to_string()), ("-5 (out_ptr)".into(), "-6".into()));
+        assert_eq!((Field::OutPtr.number(ModuleCall::Read), Field::OutPtr.number(ModuleCall::Close)), (Some(24), None));
     }
 
     #[test]
@@ -198,7 +273,7 @@ mod tests {
         let a = archive.read(State { spoiled: -6, ..begun }, &mut [], &b, 8);
         assert_eq!((a.code, a.state.spoiled), (-6, -6));
         let a = archive.read(begun, &mut [], &b, 8);
-        assert_eq!((a.code, a.state.spoiled), (-5, 0));
+        assert_eq!((a.code, a.field, a.state.spoiled), (-5, 255, 0));
         let a = archive.ingress(State { late: u64::MAX, ..begun }, &mut b, b"a", b"");
         assert_eq!((a.code, a.state.late), (-2, 1));
     }
@@ -229,7 +304,7 @@ mod tests {
         assert_eq!((a.code, a.value), (0, 152));
         assert_eq!((memory[80 + 8], &memory[80 + 144..80 + 150]), (2, &b"chorus"[..]));
         let refused = read(&archive, a.state, &mut memory, &b, b"loop/tak\x7f");
-        assert_eq!((refused.code, refused.state), (-5, a.state));
+        assert_eq!((refused.code, refused.field, refused.state), (-5, 0, a.state));
         assert_eq!(place(archive.look_up(a.state, &b, 1)), Place::Staging { at: 0, len: 152 });
         assert_eq!(place(archive.look_up(a.state, &b, 2)), Place::Staging { at: 152, len: 152 });
         let r = archive.module_return(a.state, &mut b, 0);
@@ -286,7 +361,8 @@ mod tests {
         for other in [b'0', b'3', b' ', b'\n'] {
             b.manifest[number] = other;
             let (a, r) = (write(&archive, state, &mut b), archive.module_return(state, &mut b, 0));
-            assert_eq!((a.code, a.state, r.outcome.code, r.state), (-5, state, -5, state), "{other}");
+            assert_eq!((a.code, a.field, a.state), (-5, 254, state), "{other}");
+            assert_eq!((r.outcome.code, r.state), (-5, state), "{other}");
         }
         b.manifest[number] = b'1';
         let a = write(&archive, state, &mut b);

@@ -7,6 +7,7 @@ pub mod bytes;
 pub mod calls;
 pub mod chain;
 pub mod charge;
+pub mod checks;
 pub mod event;
 pub mod ledger;
 pub mod manifest;
@@ -15,6 +16,7 @@ pub mod text;
 pub mod turns;
 pub mod value;
 
+pub use checks::Fault;
 pub use state::{Cursor, Lengths, Lent, Slot, Spoiled, State, Weave};
 
 /// A refusal, as document 01 numbers it.
@@ -28,8 +30,11 @@ pub const BAD: Code = -5;
 pub const BUDGET: Code = -6;
 pub const BAD_VALUE: Code = -7;
 
-/// What a call answers: a number that is 0 or more, or a code.
+/// What begin and ingress answer: a number that is 0 or more, or a code.
 pub type Answer = Result<u64, Code>;
+
+/// What a module call answers: a number that is 0 or more, or a code and its field.
+pub type CallAnswer = Result<u64, Fault>;
 
 /// What a return leads to.
 #[derive(Clone, Copy, Debug, PartialEq, Eq)]

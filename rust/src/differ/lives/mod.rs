@@ -2,6 +2,7 @@
 mod budget;
 mod crossed;
 mod damage;
+mod fields;
 mod full;
 mod hostile;
 mod long;
@@ -16,10 +17,11 @@ use super::twin::{Agreed, Buffer, Call, Said, Twin};
 
 type Life = fn(&mut Dice, &mut Twin) -> Agreed<()>;
 
-pub const KINDS: [(&str, Life); 15] = [
+pub const KINDS: [(&str, Life); 16] = [
     ("an ordinary life", plain::good),
     ("each argument bad alone", plain::one_bad),
     ("two arguments bad at once", plain::two_bad),
+    ("each field bad alone, and each two at once", fields::fields),
     ("a card damaged at every offset", damage::card),
     ("staged bytes damaged at every offset", damage::staging),
     ("a manifest damaged", damage::manifest),
