@@ -21,6 +21,12 @@
 //! A module call that is refused with -5 says which field of its argument record failed first: [`host::Refusal`] has the code and
 //! the field, and prints both, as in `-5 (out_ptr)`. Begin, ingress and return are no module calls; they have their code alone.
 //!
+//! # Two bands, one box
+//!
+//! What a module call answers, and what it leaves of memory, staging and state, does not depend on an event of the card that the module is
+//! not granted `in`, but for how many events the card has and how many bytes; nor does the outcome of its return (docs/PROMISES.md, 4).
+//! [`host::Host::look_up`] is not for modules: it shows any event. How long a call takes is not promised.
+//!
 //! # On which machines
 //!
 //! The archive is for x86-64, where it is linked. On other machines it runs in a program of its own, by an emulator, which is told its

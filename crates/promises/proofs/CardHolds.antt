@@ -1,28 +1,30 @@
 -- Promise 2: a commit appends exactly the staged bytes, and nothing else changes the card; a discard leaves card and state as before begin.
 -- Assumes nothing.
 use mathlib.Core.Path.{_≡_, refl, sym, ap, _∙_}
-use mathlib.Core.Bool.{false, true≢false}
-use mathlib.Core.List.{List, [], _∷_}
-use Prim.Native.Nat.{ℕ, _^_}
+use mathlib.Core.Bool.{true, false, true≢false}
+use mathlib.Core.List.{List, [], _∷_, _++_}
+use Prim.Native.Nat.{ℕ, _+_, _^_}
 use native.Mathlib.Omega.{arith}
 use lib.IntN.{ℤ}
-use lib.ListN.{length, take}
-use lib.Seq.{length-take-le}
+use lib.ListN.{length, take, drop}
+use lib.Seq.{length-take-le, take-add}
 use Rattle.le.specs.Splice.{part, splice, zeros}
-use Rattle.le.proofs.SpliceLaws.{splice-nil, part-of-splice}
+use Rattle.le.proofs.SpliceLaws.{splice-nil, part-of-splice, length-splice}
+use Rattle.card.proofs.WalkLaws.{to-records, to-append}
 use Rattle.weave.specs.declared.Code.{Code}
 use Rattle.weave.specs.States.{freshWeave}
 use Rattle.weave.proofs.SumLaws.{added-sum}
 use Rattle.host.specs.declared.Host.{Host}
-use Rattle.host.specs.declared.Fate.the-variants.{Discarded, Committed}
+use Rattle.host.specs.declared.Fate.{Fate}
+use Rattle.host.specs.declared.Fate.the-variants.{Refused, Discarded, Running, Committed}
 use Rattle.host.specs.Hosts.{Lent, withWeave}
 use Rattle.host.specs.Ending.{fateOf, committed, finished, returnAnswer, returnCard, returnStaging}
-use Rattle.promises.specs.Box.{World, Op, Return, Ended, step, run}
-use Rattle.promises.specs.Outcome.{SameCard, saysCommitted, NoneCommitted, Appended, butFaulted}
+use Rattle.promises.specs.Box.{World, cardRecords, cardChained, stagedRecords, Op, Return, Ended, step, run}
+use Rattle.promises.specs.Outcome.{stagedChained, SameCard, saysCommitted, NoneCommitted, Appended, butFaulted}
 use Rattle.promises.proofs.AcceptedLaws.{lawful}
 use Rattle.promises.proofs.OutcomeHolds.{fateIn, conditions}
 use Rattle.promises.proofs.MoveLaws.{Move, Rests, Begins, GoesOn, Commits, Discards, after}
-use Rattle.promises.proofs.MovesHold.{moved}
+use Rattle.promises.proofs.MovesHold.{moved, commits-by}
 use Rattle.promises.proofs.RefusalHolds.{laid-there}
 
 -- ---- nothing but a commit changes the card
@@ -38,6 +40,17 @@ same w o (Discards i) e = record { card = refl; text = refl; lengths = refl; use
 -- THE PROMISE: the card changes only where committed is said
 pub only-commit : (w : World) (o : Op) → saysCommitted (step w o .said) ≡ false → SameCard w (step w o .world)
 only-commit w o e = rw (moved w o .world) (same w o (moved w o .move) e)
+
+-- and nothing its length
+card-long : (w : World) (o : Op) (m : Move w o) → length (after w o m .lent .card) ≡ length (w .lent .card)
+card-long w o Rests = refl
+card-long w o (Begins args i b) = refl
+card-long w o (GoesOn r c) = refl
+card-long w o (Commits i s code c) = length-splice (w .lent .card) (w .host .used) _
+card-long w o (Discards i) = refl
+
+pub long-kept : (w : World) (o : Op) → length (step w o .world .lent .card) ≡ length (w .lent .card)
+long-kept w o = rw (moved w o .world) (card-long w o (moved w o .move))
 
 -- ---- a commit
 
@@ -73,6 +86,36 @@ module _ (w : World) where
   pub commit-appends : (code : ℤ) (events bytes : ℕ) → step w (Return code) .said ≡ Ended (Committed events bytes) → Appended w (step w (Return code) .world)
   unfolding step returnAnswer
   commit-appends code events bytes e = fate-appends code events bytes (ap fateIn e)
+
+-- so the card's records are those that were on it, then those that were staged
+pub appended-records : (was is : World) → Appended was is → cardChained (was .lent) (was .host) ≡ true → stagedChained was ≡ true
+    → (cardChained (is .lent) (is .host) ≡ true) × (cardRecords is ≡ cardRecords was ++ stagedRecords was)
+unfolding part
+appended-records was is a c s =
+    let card = was .lent .card in
+    let u = was .host .used in
+    let n = was .host .weave .staged in
+    let joined : take (u + n) (is .lent .card) ≡ take u card ++ take n (was .lent .staging) =
+    take-add u n (is .lent .card) ∙ ap (λ (t : List ℕ). t ++ take n (drop u (is .lent .card))) (a .others .before) ∙ ap (λ (t : List ℕ). take u card ++ t) (a .bytes) in (
+      rw (a .used, a .next, joined) (to-append (take u card) (take n (was .lent .staging)) 1 (was .host .next .0) c (was .host .next .0 + was .host .weave .count) s),
+      rw (a .used, joined) (to-records (take u card) (take n (was .lent .staging)) 1 (was .host .next .0) c),
+    )
+
+-- whoever says committed: it was a return
+said-fate : (f : Fate) → saysCommitted (Ended f) ≡ true → (events : ℕ) × ((bytes : ℕ) × (f ≡ Committed events bytes))
+said-fate (Refused c) e = absurd (true≢false (sym e))
+said-fate (Discarded c) e = absurd (true≢false (sym e))
+said-fate Running e = absurd (true≢false (sym e))
+said-fate (Committed events bytes) e = (events, (bytes, refl))
+
+return-appends : (w : World) (code : ℤ) → saysCommitted (step w (Return code) .said) ≡ true → Appended w (step w (Return code) .world) × (stagedChained w ≡ true)
+unfolding step returnAnswer
+return-appends w code e =
+    let f = said-fate (fateOf (w .lent) (w .host) code) e in
+    (fate-appends w code (f .0) (f .1 .0) (f .1 .1), conditions (w .lent) (w .host) code (f .0) (f .1 .0) (f .1 .1) .0 .sound)
+
+pub said-appends : (w : World) (o : Op) → saysCommitted (step w o .said) ≡ true → Appended w (step w o .world) × (stagedChained w ≡ true)
+said-appends w o e = let by = commits-by w o e in rw (by .1) (return-appends w (by .0) (rw (by .1) at e))
 
 -- ---- a discard
 

@@ -30,12 +30,16 @@ pub mod PagesHold
 pub mod ListHolds
 pub mod NamingHolds
 pub mod ChargingHolds
+pub mod TwoBandsLaws
+pub mod TwoBandsHold
+pub mod AlikeHolds
 pub mod NextHolds
 pub mod EdgesHold
 pub mod RunLaws
 pub mod CommitRuns
 pub mod TwoLaws
 pub mod TwoRuns
+pub mod BandsRuns
 pub mod Promises
 pub mod ContractsHold
 pub mod Determined

@@ -2,7 +2,7 @@
 -- Assumes nothing.
 use mathlib.Core.Path.{_≡_, refl}
 use mathlib.Core.Bool.{Bool, true, false}
-use mathlib.Core.List.{List, [], _∷_, List·Memᴰ, List·Memᴰ·head, List·Memᴰ·tail}
+use mathlib.Core.List.{List, List·Memᴰ}
 use Prim.Native.Nat.{ℕ, _≤_}
 use native.Mathlib.Omega.{arith}
 use native.Mathlib.Nat.{min-le-left}
@@ -17,7 +17,7 @@ use Rattle.card.specs.Listing.{filterOf, listed, inOrder, listOf, Before}
 use Rattle.card.specs.declared.Cursor.{Cursor}
 use Rattle.card.proofs.RecordsLaws.{Rising}
 use Rattle.card.proofs.ListingLaws.{listed-all, listed-every, sorted-order}
-use Rattle.card.proofs.PickLaws.{all-map, all-only, all-reverse, mem-only, mem-reverse, only-passes, sorted-only}
+use Rattle.card.proofs.PickLaws.{members, all-map, all-only, all-reverse, mem-only, mem-reverse, only-passes, sorted-only}
 use Rattle.promises.specs.Turn.{Allowed, ListedOf}
 
 module _ (may : List ℕ → Bool) (c : Cursor) where
@@ -53,10 +53,6 @@ module _ (may : List ℕ → Bool) (c : Cursor) where
   within-limit rs = omega (arith, length-take (c .limit) (only (listed may c) (inOrder (c .desc) rs)), min-le-left (c .limit) (length (only (listed may c) (inOrder (c .desc) rs))))
 
 -- ---- all that are allowed, and the limit
-
-pub members : (rs : List (List ℕ)) → All (λ (r : List ℕ). List·Memᴰ r rs) rs
-members [] = tt
-members (r ∷ rs) = (List·Memᴰ·head refl, all-map (λ (x : List ℕ). List·Memᴰ x rs) (λ (x : List ℕ). List·Memᴰ x (r ∷ rs)) (λ x m. List·Memᴰ·tail m) rs (members rs))
 
 ordered-all : (P : List ℕ → Type 0) (d : Bool) (rs : List (List ℕ)) → All P rs → All P (inOrder d rs)
 unfolding inOrder

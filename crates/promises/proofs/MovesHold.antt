@@ -33,6 +33,7 @@ use Rattle.reads.specs.Paging.{nextSound, nextCheck, nextHost, nextCursor, next
 use Rattle.host.specs.Ending.{returnCheck, fateOf, finished, returnAnswer, returnCard, returnStaging}
 use Rattle.promises.specs.Box.{World, Op, Begin, Ingress, Write, Read, Open, Next, Close, Return, LookUp, answered, step, isRefused, memoryOf}
 use Rattle.promises.specs.Checks.{Check, failing, lentAsked, gate, writeAsks, readAsks, openAsks, nextAsks, closeAsks, checksOf}
+use Rattle.promises.specs.Outcome.{saysCommitted}
 use Rattle.promises.specs.Diary.{Diary, ingressRecord, writtenRecord, noted}
 use Rattle.promises.specs.Standing.{Standing, done}
 use Rattle.promises.specs.Turn.{pageOn, isNextOn}
@@ -326,3 +327,16 @@ next-on k (Next m at) e = record { memory = m; at = at; is = refl; handle = eqb-
 next-on k (Close m at) e = absurd (true≢false (sym e))
 next-on k (Return code) e = absurd (true≢false (sym e))
 next-on k (LookUp id) e = absurd (true≢false (sym e))
+
+-- what says committed is a return
+pub commits-by : (w : World) (o : Op) → saysCommitted (step w o .said) ≡ true → (code : ℤ) × (o ≡ Return code)
+unfolding step
+commits-by w (Begin args) e = absurd (true≢false (sym e))
+commits-by w (Ingress topic payload) e = absurd (true≢false (sym e))
+commits-by w (Write m at) e = absurd (true≢false (sym e))
+commits-by w (Read m at) e = absurd (true≢false (sym e))
+commits-by w (Open m at) e = absurd (true≢false (sym e))
+commits-by w (Next m at) e = absurd (true≢false (sym e))
+commits-by w (Close m at) e = absurd (true≢false (sym e))
+commits-by w (Return code) e = (code, refl)
+commits-by w (LookUp id) e = absurd (true≢false (sym e))

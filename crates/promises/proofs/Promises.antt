@@ -1,5 +1,5 @@
 -- THE PROMISES, each in one place and in the user's order. What they speak of is in specs/: Box, Checks, Fields, Mounting, Refusal, Accepted, Outcome, Diary, Standing,
--- ReadBack, Turn, Naming, Charging, TwoWeaves. That they are about the code is ContractsHold.antt; that they do not hold because nothing happens is the last part.
+-- ReadBack, Turn, TwoBands, SideBySide, Naming, Charging, TwoWeaves, Bands. That they are about the code is ContractsHold.antt; that they do not hold because nothing happens is the last part.
 -- Assumes nothing.
 use mathlib.Core.Path.{_≡_, ap}
 use mathlib.Core.Bool.{Bool, true, false}
@@ -40,7 +40,7 @@ use Rattle.host.specs.declared.Host.{Host}
 use Rattle.mounts.specs.Mount.{mounted}
 use Rattle.reads.specs.Paging.{nextPart, nextAnswer, nextCheck}
 use Rattle.reads.specs.Reading.{readTopic, readList, readAnswer, readCheck}
-use Rattle.promises.specs.Box.{World, recordsOn, cardRecords, stagedRecords, LendsBytes, Op, Begin, Ingress, Write, Read, Open, Next, Close, Return, LookUp, Answered, Ended, Part, step, isRefused, codeOf, saidNumber, memoryOf, mountedUnder, mountedAs, run}
+use Rattle.promises.specs.Box.{World, recordsOn, cardRecords, cardChained, stagedRecords, LendsBytes, Op, Begin, Ingress, Write, Read, Open, Next, Close, Return, LookUp, Answered, Ended, Part, step, isRefused, codeOf, saidNumber, memoryOf, mountedUnder, mountedAs, run}
 use Rattle.promises.specs.Refusal.{Unchanged, OnlyThere}
 use Rattle.promises.specs.Checks.{Passed, failing, failingField, checksOf, answers, tooLate}
 use Rattle.promises.specs.Fields.{FirstFailed, isModuleCall, namedBy, fieldsOf, Inside, Aligned, Payload}
@@ -51,8 +51,11 @@ use Rattle.promises.specs.Diary.{Diary, answerOf, ingressRecord, written
 use Rattle.promises.specs.Standing.{atMount, standing, Stands}
 use Rattle.promises.specs.Turn.{InTurn, handedOver, listLeft, FirstPart, Nexts, Allowed, ListedOf, AskedBy}
 use Rattle.promises.specs.ReadBack.{HasPage, ReadOf}
+use Rattle.promises.specs.TwoBands.{Beside, CardsAlike, Alike, Call, asked, Heard, playedBy, SameTurn}
+use Rattle.promises.specs.SideBySide.{AllKeepTo, Together, Exchanged, AgreeByNumber}
 use Rattle.promises.specs.Naming.{NoDel, Clean, namedIn, GoodIn01, MayFollow}
 use Rattle.promises.specs.Charging.{edition, Made, saidBy}
+use Rattle.promises.specs.Bands.{inBandB}
 use Rattle.promises.specs.TwoWeaves.{saidOver, twoModules, theCalls, theAnswers}
 use Rattle.promises.proofs.AcceptedLaws.{lawful, fine-lawful, settle-ok}
 use Rattle.promises.proofs.OutcomeHolds.{committed-exactly}
@@ -77,10 +80,13 @@ use Rattle.promises.proofs.TidyHolds.{life-tidy}
 use Rattle.promises.proofs.StandingHolds.{ruled-stands}
 use Rattle.promises.proofs.PagesHold.{open-lists, first-part, end-exactly, drained}
 use Rattle.promises.proofs.ListHolds.{all-allowed, every-allowed, within-limit, all-listed}
+use Rattle.promises.proofs.TwoBandsHold.{turn-same, plays-same, all-asked}
+use Rattle.promises.proofs.AlikeHolds.{lives-alike, exchanged-alike, agree-by-number}
 use Rattle.promises.proofs.NamingHolds.{kept-exactly, called-exactly, names-no-del, grants-no-del, lists-no-del, reads-no-del, kept-mounts, kept-shown, kept-named}
 use Rattle.promises.proofs.ChargingHolds.{life-rule, made-exactly, says-so, by-edition}
 use Rattle.promises.proofs.CommitRuns.{oneModule, commits-one}
 use Rattle.promises.proofs.TwoRuns.{all-said}
+use Rattle.promises.proofs.BandsRuns.{bands-alike, bands-differ}
 
 -- ==== 1. "a refusal changes no lent byte and, but for the spoiled mark, no state"
 
@@ -351,6 +357,41 @@ none-left-out = every-allowed
 pub at-most-the-limit : (may : List ℕ → Bool) (c : Cursor) (rs : List (List ℕ)) → length (listOf may c rs) ≤ c .limit
 at-most-the-limit = within-limit
 
+-- ==== 4. "Two bands share a box" (02, A14)
+
+-- Two boxes at the start of one module's turn, or later in it: all is the same but the cards' bytes, and the cards, both sound, agree on every event granted `in` to that module. Then "any
+-- sequence of that module's calls gives the same answers, memory, staging and units in both. .. If it is the last module, its return gives the same outcome too."
+pub two-bands : (w₁ w₂ : World) → Alike w₁ w₂ → (cs : List Call) → SameTurn w₁ w₂ cs
+two-bands = turn-same
+
+-- So a module that is any function of all it has heard makes the same calls in both: it cannot act on what it is not granted.
+pub same-play : (plays : List Heard → Call) (n : ℕ) (w₁ w₂ : World) → Alike w₁ w₂ → (past : List Heard) → playedBy plays n w₁ past ≡ playedBy plays n w₂ past
+same-play = plays-same
+
+-- "that module's calls" are the module calls, all of them
+pub these-are-the-module-calls : (o : Op) → (isModuleCall o ≡ true) ↔ ((c : Call) × (asked c ≡ o))
+these-are-the-module-calls = all-asked
+
+-- that the cards agree, said by numbers
+pub cards-agree-by-number : (k : ℕ) (w₁ w₂ : World) → Beside w₁ w₂ → cardChained (w₁ .lent) (w₁ .host) ≡ true → cardChained (w₂ .lent) (w₂ .host) ≡ true
+    → CardsAlike k w₁ w₂ ↔ AgreeByNumber k w₁ w₂
+cards-agree-by-number = agree-by-number
+
+-- "The other events differ at will": any run of events of which none is granted may be exchanged for any other, of as many events and bytes
+pub hidden-events-differ-at-will : (k : ℕ) (w₁ w₂ : World) → Exchanged k w₁ w₂ → CardsAlike k w₁ w₂
+hidden-events-differ-at-will = exchanged-alike
+
+-- And such boxes come about. Two cards with as many events are mounted; whoever then calls, in as many turns and weaves as there are, the boxes say the same and stay side by side, so long as nobody looks
+-- an event up and only modules list for which the cards agree. They are then alike in the turn of each of these.
+module _ (staging text card₁ card₂ : List ℕ) (used : ℕ) (long : length card₁ ≡ length card₂)
+    (fine₁ : mounted (lentAs staging card₁ text) used .code ≡ Fine) (fine₂ : mounted (lentAs staging card₂ text) used .code ≡ Fine)
+    (many : length (recordsOn card₁ used) ≡ length (recordsOn card₂ used)) where
+  pub two-boxes-live-side-by-side : (seen : ℕ → Type 0)
+      → ((k : ℕ) → seen k → (r : List ℕ) → mayRead text k (topicOf r) ≡ true → List·Memᴰ r (recordsOn card₁ used) ↔ List·Memᴰ r (recordsOn card₂ used))
+      → (os : List Op) → AllKeepTo seen (mountedAs (lentAs staging card₁ text) used) os
+      → Together seen (mountedAs (lentAs staging card₁ text) used) (mountedAs (lentAs staging card₂ text) used) os
+  two-boxes-live-side-by-side = lives-alike staging text card₁ card₂ used long fine₁ fine₂ many
+
 -- ==== 02, A2: byte 127, DEL
 
 -- "Topics, filters and manifests now refuse it": exactly these are good there; a card keeps what was good by 01
@@ -481,3 +522,11 @@ a-run-commits = commits-one
 pub a-run-of-two-modules : (n c : ℕ) → 65536 ≤ n → n ≤ 1048576 → 136 ≤ c → c ≤ 16777216
     → saidOver (mountedAs (lentAs (zeros n) (zeros c) twoModules) 0) theCalls ≡ theAnswers
 a-run-of-two-modules = all-said
+
+-- and of two bands (promises/Bands): reached by mount, begin, ingress and band A's turn, two boxes are alike in band B's turn, whatever band A has played, and differ where it has not played the same
+module _ (n : ℕ) (least : 65536 ≤ n) (most : n ≤ 1048576) (p q : List ℕ) (long : length p ≡ length q) (short : length p ≤ 1000000) where
+  pub two-boxes-are-alike : Alike (inBandB n p) (inBandB n q)
+  two-boxes-are-alike = bands-alike n least most p q long short
+
+  pub and-they-differ : inBandB n p .lent .card ≡ inBandB n q .lent .card → p ≡ q
+  and-they-differ = bands-differ n least most p q long short

@@ -12,7 +12,7 @@ use Rattle.text.specs.Compare.{sameBytes}
 use Rattle.text.proofs.CompareLaws.{same-true, same-refl}
 use Rattle.record.specs.Record.{idOf, topicOf}
 use Rattle.card.specs.Pick.{All, only}
-use Rattle.card.proofs.PickLaws.{all-map, all-only, mem-only, only-passes, sorted-only}
+use Rattle.card.proofs.PickLaws.{members, all-map, all-only, mem-only, only-passes, sorted-only}
 use Rattle.card.proofs.RecordsLaws.{records-rise}
 use Rattle.weave.specs.Args.{readArgs}
 use Rattle.reads.specs.Reading.{readTopic, readList}
@@ -22,7 +22,6 @@ use Rattle.promises.specs.ReadBack.{ReadOf}
 use Rattle.promises.proofs.AcceptedHolds.{read-exactly}
 use Rattle.promises.proofs.AnswersHold.{answers-are, page-bytes}
 use Rattle.promises.proofs.PagesHold.{Long, records-long, page-zero, zero-page}
-use Rattle.promises.proofs.ListHolds.{members}
 
 module _ (w : World) (m : List ℕ) (at : ℕ) where
   abbrev wanted : List ℕ → Bool

@@ -11,5 +11,8 @@ pub mod Turn
 pub mod ReadBack
 pub mod Naming
 pub mod Charging
+pub mod TwoBands
+pub mod SideBySide
 pub mod Edges
 pub mod TwoWeaves
+pub mod Bands
