@@ -1,5 +1,6 @@
 //! The differential run: seeded lives of a box, each call made by the twin and by the archive.
 mod asks;
+pub mod bands;
 mod charge;
 mod del;
 mod dice;
