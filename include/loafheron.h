@@ -40,9 +40,10 @@
  * in no argument (the memory's size, a lent length, the manifest, the state). 0 is the topic when a module call's code is -5, and
  * nothing otherwise: look at the code first.
  *
- * TWO BANDS may share a box. What a module call answers, and what it leaves of memory, staging and state, does not depend on an
- * event of the card that the module is not granted `in`, but for how many events the card has and how many bytes (docs/PROMISES.md,
- * 4); nor does the outcome of its return. Two things are not in this promise, and are the caller's to keep from a module:
+ * TWO BANDS may share a box. On a sound card, one that was mounted and that only these functions have changed since, what a module
+ * call answers, and what it leaves of memory, staging and state, does not depend on what is in an event that the module is not
+ * granted `in`; nor does the outcome of its return. Only how many events there are, their numbers, and how many bytes all of them
+ * have can show (docs/PROMISES.md, 4). Two things are not in this promise, and are the caller's to keep from a module:
  * loafheron_look_up shows any event, and how long a call takes may tell of what it passed over.
  *
  * WHAT THE PROMISES BUILD ON. What a function answers, and what it leaves in each lent byte, is proved for every state and

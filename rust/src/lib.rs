@@ -23,9 +23,10 @@
 //!
 //! # Two bands, one box
 //!
-//! What a module call answers, and what it leaves of memory, staging and state, does not depend on an event of the card that the module is
-//! not granted `in`, but for how many events the card has and how many bytes; nor does the outcome of its return (docs/PROMISES.md, 4).
-//! [`host::Host::look_up`] is not for modules: it shows any event. How long a call takes is not promised.
+//! On a sound card, as a mounted [`host::Host`] has it, what a module call answers, and what it leaves of memory, staging and state, does
+//! not depend on what is in an event that the module is not granted `in`; nor does the outcome of its return. Only how many events there
+//! are, their numbers, and how many bytes all of them have can show (docs/PROMISES.md, 4). [`host::Host::look_up`] and
+//! [`host::Host::used`] are not for modules: they show any event. How long a call takes is not promised.
 //!
 //! # On which machines
 //!

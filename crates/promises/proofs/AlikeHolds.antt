@@ -1,25 +1,18 @@
 -- How boxes that are alike come about: their cards are mounted, or a run of events that are not granted is exchanged. And what "agree" means by numbers.
 -- Assumes nothing.
-use mathlib.Core.Path.{_≡_, refl, sym, ap, _∙_, subst}
-use mathlib.Core.Bool.{Bool, true, false, true≢false}
-use mathlib.Core.List.{List, [], _∷_, _++_, List·Memᴰ, List·Memᴰ·append-cases, Memᴰ·append-left, Memᴰ·append-right}
+use mathlib.Core.Path.{_≡_, refl, sym, ap, _∙_}
+use mathlib.Core.Bool.{true}
+use mathlib.Core.List.{List, _++_, List·Memᴰ}
 use mathlib.Core.Logic.{inl, inr, ⊎-elim, _↔_}
-use Prim.Native.Nat.{ℕ, zero, suc, _+_, _≤_, _<_}
+use Prim.Native.Nat.{ℕ, _+_}
 use native.Mathlib.Omega.{arith}
-use borrow.Author.Tests.{ltb-true, ltb-false}
-use lib.Dec.{ltb}
-use lib.ListN.{length, take, getD, length-append}
+use lib.ListN.{length, take, length-append}
 use lib.Seq.{take-at}
-use Rattle.le.proofs.TestLaws.{Tested, passes, fails, tested}
 use Rattle.manifest.specs.Saying.{chargeOf, mayRead}
-use Rattle.record.specs.Record.{idOf, topicOf}
-use Rattle.record.proofs.GoodLaws.{good-id}
-use Rattle.card.specs.Pick.{All}
+use Rattle.record.specs.Record.{topicOf}
 use Rattle.card.specs.Records.{records}
-use Rattle.card.specs.Walk.{chainTo}
-use Rattle.card.proofs.PickLaws.{all-mem, mem-place, place-mem}
-use Rattle.card.proofs.WalkLaws.{to-count, to-records, to-append}
-use Rattle.card.proofs.RecordsLaws.{records-good}
+use Rattle.card.proofs.WalkLaws.{to-count}
+use Rattle.card.proofs.AgreeLaws.{joined-sound, stays-among, same-place, place-same}
 use Rattle.weave.specs.declared.Code.the-variants.{Fine}
 use Rattle.host.specs.declared.Host.{Host}
 use Rattle.host.specs.Hosts.{Lent, lentAs, lengthsOf}
@@ -72,33 +65,12 @@ module _ (staging text card₁ card₂ : List ℕ) (used : ℕ) (long : length c
   }
 
   -- THE PROMISE: from there on they lead the same life
-  pub lives-alike : (seen : ℕ → Type 0)
-      → ((k : ℕ) → seen k → (r : List ℕ) → mayRead text k (topicOf r) ≡ true → List·Memᴰ r (recordsOn card₁ used) ↔ List·Memᴰ r (recordsOn card₂ used))
-      → (os : List Op) → AllKeepTo seen (mountedAs l₁ used) os → Together seen (mountedAs l₁ used) (mountedAs l₂ used) os
-  lives-alike seen agree os keep = side-by-side seen os (mountedAs l₁ used) (mountedAs l₂ used) mounts-beside (λ k s. mounts-alike k (agree k s)) keep
+  pub lives-alike : (listeners : ℕ → Type 0)
+      → ((k : ℕ) → listeners k → (r : List ℕ) → mayRead text k (topicOf r) ≡ true → List·Memᴰ r (recordsOn card₁ used) ↔ List·Memᴰ r (recordsOn card₂ used))
+      → (os : List Op) → AllKeepTo listeners (mountedAs l₁ used) os → Together listeners (mountedAs l₁ used) (mountedAs l₂ used) os
+  lives-alike listeners agree os keep = side-by-side listeners os (mountedAs l₁ used) (mountedAs l₂ used) mounts-beside (λ k s. mounts-alike k (agree k s)) keep
 
 -- ---- "The other events differ at will"
-
--- of a part in three parts, each of which carries the chain on, the middle one is exchanged
-module _ (may : List ℕ → Bool) (first i j next : ℕ) (a b : List ℕ) (ca : chainTo a first i ≡ true) (cb : chainTo b j next ≡ true) where
-  joined-sound : (m : List ℕ) → chainTo m i j ≡ true → chainTo (a ++ (m ++ b)) first next ≡ true
-  joined-sound m c = to-append a (m ++ b) first i ca next (to-append m b i j c next cb)
-
-  joined-records : (m : List ℕ) → chainTo m i j ≡ true → records (a ++ (m ++ b)) first ≡ records a first ++ (records m i ++ records b j)
-  joined-records m c = to-records a (m ++ b) first i ca ∙ ap (λ (rs : List (List ℕ)). records a first ++ rs) (to-records m b i j c)
-
-  -- what is granted is not of the middle, and stays
-  stays-among : (m n : List ℕ) → chainTo m i j ≡ true → chainTo n i j ≡ true → All (λ (r : List ℕ). may (topicOf r) ≡ false) (records m i)
-      → (r : List ℕ) → may (topicOf r) ≡ true → List·Memᴰ r (records (a ++ (m ++ b)) first) → List·Memᴰ r (records (a ++ (n ++ b)) first)
-  stays-among m n c d none r y =
-      rw (joined-records m c, joined-records n d)
-      (λ k.
-      ⊎-elim (λ q. Memᴰ·append-left (records n i ++ records b j) q)
-      (λ q.
-      Memᴰ·append-right (records a first)
-      (⊎-elim (λ z. absurd (true≢false (sym y ∙ all-mem (λ (r : List ℕ). may (topicOf r) ≡ false) r (records m i) none z))) (λ z. Memᴰ·append-right (records n i) z)
-      (List·Memᴰ·append-cases (records m i) q)))
-      (List·Memᴰ·append-cases (records a first) k))
 
 -- THE PROMISE: the boxes agree for that module
 pub exchanged-alike : (k : ℕ) (w₁ w₂ : World) → Exchanged k w₁ w₂ → CardsAlike k w₁ w₂
@@ -120,39 +92,6 @@ exchanged-alike k w₁ w₂ x =
     }
 
 -- ---- by numbers
-
--- an event stands at the place of its number
-place-is : (s : List ℕ) (first i : ℕ) → i < length (records s first) → idOf (getD (records s first) i []) ≡ first + i
-place-is s first i h = good-id (getD (records s first) i []) (first + i) (records-good s first i h)
-
-beyond : (rs : List (List ℕ)) (i : ℕ) → length rs ≤ i → getD rs i [] ≡ []
-beyond [] i h = refl
-beyond (r ∷ rs) zero h = absurd (omega arith)
-beyond (r ∷ rs) (suc i) h = beyond rs i (omega arith)
-
-module _ (may : List ℕ → Bool) (first : ℕ) (s t : List ℕ) (many : length (records s first) ≡ length (records t first)) where
-  -- what is granted and on both stands at the same place
-  same-place : ((r : List ℕ) → may (topicOf r) ≡ true → List·Memᴰ r (records s first) → List·Memᴰ r (records t first))
-      → (i : ℕ) → may (topicOf (getD (records s first) i [])) ≡ true → getD (records s first) i [] ≡ getD (records t first) i []
-  same-place into i y = go (tested (ltb i (length (records s first))))
-    where
-      go : Tested (ltb i (length (records s first))) → getD (records s first) i [] ≡ getD (records t first) i []
-      go (passes e) =
-          let here = ltb-true i (length (records s first)) e in
-          let p = mem-place [] (getD (records s first) i []) (records t first) (into _ y (place-mem [] (records s first) i here)) in
-          let at : p .0 ≡ i = omega (arith, place-is t first (p .0) (p .1 .0), ap idOf (p .1 .1), place-is s first i here) in
-          sym (p .1 .1) ∙ ap (λ (j : ℕ). getD (records t first) j []) at
-      go (fails e) =
-          let out = ltb-false i (length (records s first)) e in
-          beyond (records s first) i out ∙ sym (beyond (records t first) i (omega (arith, many, out)))
-
-  -- what stands at the same place is on both
-  place-same : ((i : ℕ) → may (topicOf (getD (records s first) i [])) ≡ true → getD (records s first) i [] ≡ getD (records t first) i [])
-      → (r : List ℕ) → may (topicOf r) ≡ true → List·Memᴰ r (records s first) → List·Memᴰ r (records t first)
-  place-same same r y m =
-      let p = mem-place [] r (records s first) m in
-      let is = same (p .0) (rw (p .1 .1) y) in
-      subst (λ (x : List ℕ). List·Memᴰ x (records t first)) (sym is ∙ p .1 .1) (place-mem [] (records t first) (p .0) (omega (arith, p .1 .0, many)))
 
 -- THE PROMISE: both readings of "agree" are one
 pub agree-by-number : (k : ℕ) (w₁ w₂ : World) → Beside w₁ w₂ → cardChained (w₁ .lent) (w₁ .host) ≡ true → cardChained (w₂ .lent) (w₂ .host) ≡ true

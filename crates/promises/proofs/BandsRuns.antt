@@ -1,7 +1,7 @@
 -- Two boxes that are alike and differ, reached by mount, begin, ingress and a turn: what band A played is any payload, and it is band B's turn.
 -- Assumes nothing.
 use mathlib.Core.Path.{_≡_, refl, sym, ap, _∙_}
-use mathlib.Core.Bool.{true, false}
+use mathlib.Core.Bool.{true, false, true≢false}
 use mathlib.Core.List.{List, [], _∷_, append-nil}
 use mathlib.Core.Logic.{inl}
 use Prim.Native.Nat.{ℕ, _+_, _≤_}
@@ -18,6 +18,7 @@ use Rattle.text.specs.Lines.{closed, fields, lineAt, lines, field}
 use Rattle.text.specs.Sizes.{totalLen}
 use Rattle.text.specs.Topic.{goodTopic, goodText, noControl}
 use Rattle.text.specs.Utf8.{utf8, utf8From, after}
+use Rattle.text.specs.Words.{panicTopic}
 use Rattle.manifest.specs.Line.{numberIn, modulesIn, chargeIn, oneTo, holderIn, grantForm, rightIn}
 use Rattle.manifest.specs.Rights.{granted, anyGives, gives}
 use Rattle.manifest.specs.Words.{modulesWord, chargeWord, grantWord, inWord, outWord}
@@ -39,12 +40,12 @@ use Rattle.host.specs.Hosts.{Lent, withWeave}
 use Rattle.mounts.specs.Mount.{mounted}
 use Rattle.writes.specs.Stage.{roomFine}
 use Rattle.promises.specs.Box.{World, recordsOn, Begin, Ingress, Return, Ended, step, isRefused, mountedAs}
-use Rattle.promises.specs.Outcome.{moduleCount, begunWith}
+use Rattle.promises.specs.Outcome.{moduleCount, SameCard, begunWith}
 use Rattle.promises.specs.TwoBands.{Beside, Alike}
 use Rattle.promises.specs.SideBySide.{Together, Exchanged}
 use Rattle.promises.specs.Standing.{atMount, started, Stands}
 use Rattle.promises.specs.TwoWeaves.{hundred}
-use Rattle.promises.specs.Bands.{bands, takeOf, takeA, takeB, cardWith, lentWith, toBandB, inBandB}
+use Rattle.promises.specs.Bands.{bands, takeOf, takeA, takeB, cardWith, lentWith, toBandB, inBandB, BandBsTurn}
 use Rattle.promises.proofs.AcceptedHolds.{begin-exactly, ingress-exactly}
 use Rattle.promises.proofs.ReturnHolds.{running-exactly, turn-passes}
 use Rattle.promises.proofs.MountHolds.{mounts, mount-fresh, mount-healthy}
@@ -58,56 +59,58 @@ use Rattle.promises.proofs.TwoBandsHold.{side-by-side}
 use Rattle.promises.proofs.RunLaws.{no-bytes}
 use Rattle.promises.proofs.NamingHolds.{called-exactly, kept-mounts}
 
--- ---- what the manifest says: two modules; band B is not granted what band A plays
+-- ---- what the manifest says: two modules; band B is granted what it plays itself, and not what band A plays
 
 record Says : Type 0 where
   good : isGood (manifestOf bands) ≡ true
   two : modulesSaid (manifestOf bands) ≡ 2
+  own : mayRead bands 2 (98 ∷ []) ≡ true
   hidden : mayRead bands 2 (97 ∷ []) ≡ false
   topic : goodTopic (98 ∷ []) ≡ true
 
 says : Says
 unfolding mayRead granted anyGives gives rightIn manifestOf goodHead modulesOf headOf optional beyond grantLines grantsSaid goodGrants allGrants closed modulesIn chargeIn numberIn fields lineAt lines sameBytes field modulesWord chargeWord oneTo numberOf noLeadingZero numberFrom digits valueFrom holderIn grantForm grantWord inWord outWord goodText utf8 utf8From after noControl
-says = record { good = refl; two = refl; hidden = refl; topic = refl }
+says = record { good = refl; two = refl; own = refl; hidden = refl; topic = refl }
 
 -- ---- the two takes
 
-record TakeIs (number letter : ℕ) (payload : List ℕ) : Type 0 where
+record TakeIs (number module′ letter : ℕ) (payload : List ℕ) : Type 0 where
   small : totalLen 1 (length payload) ≤ 1000144
-  long : length (takeOf number letter payload) ≡ totalLen 1 (length payload)
-  topic : topicOf (takeOf number letter payload) ≡ letter ∷ []
-  content : payloadOf (takeOf number letter payload) ≡ payload
-  one : records (takeOf number letter payload) number ≡ takeOf number letter payload ∷ []
-  sound : chainTo (takeOf number letter payload) number (number + 1) ≡ true
+  long : length (takeOf number module′ letter payload) ≡ totalLen 1 (length payload)
+  topic : topicOf (takeOf number module′ letter payload) ≡ letter ∷ []
+  content : payloadOf (takeOf number module′ letter payload) ≡ payload
+  one : records (takeOf number module′ letter payload) number ≡ takeOf number module′ letter payload ∷ []
+  sound : chainTo (takeOf number module′ letter payload) number (number + 1) ≡ true
 
-raw-kind : goodKind 1 0 ≡ true
-unfolding goodKind goodFlags
-raw-kind = cc
-
-take-is : (number letter : ℕ) (payload : List ℕ) → number ≤ 2 → length payload ≤ 1000000 → goodName 0 (letter ∷ []) ≡ true → TakeIs number letter payload
-take-is number letter payload low short name =
-    let head : Header = record { id = record { 0 = number }; flags = 1; time = record { 0 = 0 }; agent = 0 } in
+take-is : (number module′ letter : ℕ) (payload : List ℕ) → number ≤ 2 → length payload ≤ 1000000 → goodKind 1 module′ ≡ true → goodName module′ (letter ∷ []) ≡ true
+    → TakeIs number module′ letter payload
+take-is number module′ letter payload low short kind name =
+    let head : Header = record { id = record { 0 = number }; flags = 1; time = record { 0 = 0 }; agent = module′ } in
+    let r = takeOf number module′ letter payload in
     let small : totalLen 1 (length payload) ≤ 1000144 = omega arith in
     let fits : totalLen 1 (length payload) ≤ 4294967295 = omega (arith, small) in
-    let good : goodRecord (takeOf number letter payload) number ≡ true =
-    record-good head (zeros 32) (letter ∷ []) payload refl fits (omega arith) raw-kind name (raw-payload 1 payload cc) in
-    let one : records (takeOf number letter payload) number ≡ takeOf number letter payload ∷ [] = records-one (takeOf number letter payload) number good in
+    let good : goodRecord r number ≡ true = record-good head (zeros 32) (letter ∷ []) payload refl fits (omega arith) kind name (raw-payload 1 payload cc) in
+    let one : records r number ≡ r ∷ [] = records-one r number good in
     record {
       small = small;
       long = length-record head (zeros 32) (letter ∷ []) payload refl fits;
       topic = record-topic head (zeros 32) (letter ∷ []) payload refl fits;
       content = record-payload head (zeros 32) (letter ∷ []) payload refl fits;
       one = one;
-      sound = to-chain (takeOf number letter payload) number (number + 1) (rw one (omega arith)) (rw one);
+      sound = to-chain r number (number + 1) (rw one (omega arith)) (rw one);
     }
 
-a-is : (payload : List ℕ) → length payload ≤ 1000000 → TakeIs 1 97 payload
-unfolding goodName goodText utf8 utf8From after noControl
-a-is payload short = take-is 1 97 payload (omega arith) short refl
+kinds : (goodKind 1 1 ≡ true) × (goodKind 1 2 ≡ true)
+unfolding goodKind goodFlags
+kinds = (cc, cc)
 
-b-is : TakeIs 2 98 []
-unfolding goodName goodText utf8 utf8From after noControl
-b-is = take-is 2 98 [] (omega arith) (omega arith) refl
+a-is : (payload : List ℕ) → length payload ≤ 1000000 → TakeIs 1 1 97 payload
+unfolding goodName goodText utf8 utf8From after noControl sameBytes panicTopic
+a-is payload short = take-is 1 1 97 payload (omega arith) short (kinds .0) refl
+
+b-is : TakeIs 2 2 98 []
+unfolding goodName goodText utf8 utf8From after noControl sameBytes panicTopic
+b-is = take-is 2 2 98 [] (omega arith) (omega arith) (kinds .1) refl
 
 -- ---- one box
 
@@ -122,17 +125,18 @@ module _ (n : ℕ) (least : 65536 ≤ n) (most : n ≤ 1048576) (payload : List 
   staging-long = length-replicate {0} {A = ℕ} n 0
 
   fine : mounted l used′ .code ≡ Fine
+  unfolding sameBytes panicTopic
   fine =
       let is = a-is payload short in
-      kept-mounts (zeros n) bands (takeA payload) (record { id = record { 0 = 2 }; flags = 1; time = record { 0 = 0 }; agent = 0 }) (zeros 32) (98 ∷ []) []
+      kept-mounts (zeros n) bands (takeA payload) (record { id = record { 0 = 2 }; flags = 1; time = record { 0 = 0 }; agent = 2 }) (zeros 32) (98 ∷ []) []
       (omega (arith, staging-long)) (omega (arith, staging-long)) (says .good)
       (record {
         sound = rw (is .one) (omega arith);
         number = rw (is .one);
         traced = refl;
-        kind = raw-kind;
+        kind = kinds .1;
         topic-good = called-exactly 1 2048 (98 ∷ []) .0 (says .topic) .0;
-        panic = λ e. refl;
+        panic = λ e. absurd (true≢false (sym e));
         payload-good = raw-payload 1 [] cc;
         fits = omega (arith, is .long, is .small);
       })
@@ -200,14 +204,21 @@ module _ (n : ℕ) (least : 65536 ≤ n) (most : n ≤ 1048576) (payload : List 
         omega (arith, first-turn, two-modules),
       )
 
-  second-turn : inBandB n payload .host .weave .turn ≡ 2
-  unfolding withWeave
-  second-turn = rw (turn-passes w₂ (pos 0) e₂, first-turn)
-
   -- the card is as it was
-  same-card : inBandB n payload .lent .card ≡ cardWith payload
+  kept : SameCard w₀ (inBandB n payload)
   unfolding step
-  same-card = same-run toBandB w₀ (refl, (refl, (rw e₂, tt))) .card
+  kept = same-run toBandB w₀ (refl, (refl, (rw e₂, tt)))
+
+  -- THE PROMISE: it is band B's turn
+  pub bands-turn : BandBsTurn (inBandB n payload) payload
+  unfolding withWeave
+  bands-turn = record {
+    running = rw (turn-passes w₂ (pos 0) e₂) (stands .running);
+    turn = rw (turn-passes w₂ (pos 0) e₂, first-turn);
+    card = rw (kept .card, kept .used, mounts l used′ .fresh fine .used) on-card;
+    own = rw (kept .text, b-is .topic) (says .own);
+    other = rw (kept .text, a-is payload short .topic) (says .hidden);
+  }
 
 -- ---- two boxes
 
@@ -272,12 +283,12 @@ module _ (n : ℕ) (least : 65536 ≤ n) (most : n ≤ 1048576) (p q : List ℕ)
 
   -- THE PROMISE: in band B's turn they are alike
   pub bands-alike : Alike (inBandB n p) (inBandB n q)
-  bands-alike = rw card-same (record { beside = together .beside; cards = together .cards _ (second-turn n least most p short) })
+  bands-alike = rw card-same (record { beside = together .beside; cards = together .cards _ (bands-turn n least most p short .turn) })
 
   -- and band A has played what it likes
   pub bands-differ : inBandB n p .lent .card ≡ inBandB n q .lent .card → p ≡ q
   bands-differ e =
-      let cards : cardWith p ≡ cardWith q = sym (same-card n least most p short) ∙ e ∙ same-card n least most q short′ in
+      let cards : cardWith p ≡ cardWith q = sym (kept n least most p short .card) ∙ e ∙ kept n least most q short′ .card in
       let takes : takeA p ≡ takeA q =
       sym (take-at (takeA p) takeB (length (takeA p)) refl) ∙ ap (take (length (takeA p))) cards ∙ take-at (takeA q) takeB (length (takeA p)) take-same in
       sym (a-is p short .content) ∙ ap payloadOf takes ∙ a-is q short′ .content

@@ -20,7 +20,8 @@ use Rattle.host.specs.declared.Fate.the-variants.{Refused, Discarded, Running, 
 use Rattle.host.specs.Hosts.{Lent, withWeave}
 use Rattle.host.specs.Ending.{fateOf, committed, finished, returnAnswer, returnCard, returnStaging}
 use Rattle.promises.specs.Box.{World, cardRecords, cardChained, stagedRecords, Op, Return, Ended, step, run}
-use Rattle.promises.specs.Outcome.{stagedChained, SameCard, saysCommitted, NoneCommitted, Appended, butFaulted}
+use Rattle.promises.specs.Outcome.{Conditions, stagedChained, SameCard, saysCommitted, NoneCommitted, Appended, butFaulted}
+use Rattle.promises.specs.Turn.{InTurn}
 use Rattle.promises.proofs.AcceptedLaws.{lawful}
 use Rattle.promises.proofs.OutcomeHolds.{fateIn, conditions}
 use Rattle.promises.proofs.MoveLaws.{Move, Rests, Begins, GoesOn, Commits, Discards, after}
@@ -61,26 +62,31 @@ module _ (w : World) where
   abbrev h : Host
   h = w .host
 
-  fate-appends : (code : ℤ) (events bytes : ℕ) → fateOf l h code ≡ Committed events bytes → Appended w (step w (Return code) .world)
-  unfolding step returnAnswer returnCard returnStaging finished committed
-  fate-appends code events bytes q =
-      let c = conditions l h code events bytes q in
-      let law = lawful l h (c .0 .check-1) in
+  -- by the move
+  pub move-appends : (o : Op) (i : InTurn o → ⊥) (s : saysCommitted (step w o .said) ≡ true) (code : ℤ) (c : Conditions l h code) → Appended w (after w o (Commits i s code c))
+  unfolding committed
+  move-appends o i s code c =
+      let law = lawful l h (c .check-1) in
       let long = length-take-le (h .weave .staged) (l .staging) (law .staged) in
-      rw (q, c .1 .0, c .1 .1)
-      (record {
+      record {
         lengths = refl;
-        used = added-sum (h .used) (h .weave .staged) (h .lengths .card) (omega (arith, c .0 .fits, law .card-long));
+        used = added-sum (h .used) (h .weave .staged) (h .lengths .card) (omega (arith, c .fits, law .card-long));
         next = added-sum (h .next .0) (h .weave .count) (2 ^ 63) (law .numbers);
         bytes =
             ap (λ (n : ℕ). part (h .used) n (splice (l .card) (h .used) (take (h .weave .staged) (l .staging)))) (sym long)
-            ∙ part-of-splice (l .card) (h .used) (take (h .weave .staged) (l .staging)) (omega (arith, long, c .0 .fits));
+            ∙ part-of-splice (l .card) (h .used) (take (h .weave .staged) (l .staging)) (omega (arith, long, c .fits));
         others = laid-there (l .card) (h .used) (take (h .weave .staged) (l .staging)) (h .weave .staged) long;
         faulted = refl;
         weave = refl;
         staging = refl;
         text = refl;
-      })
+      }
+
+  fate-appends : (code : ℤ) (events bytes : ℕ) → fateOf l h code ≡ Committed events bytes → Appended w (step w (Return code) .world)
+  unfolding step returnAnswer returnCard returnStaging finished
+  fate-appends code events bytes q =
+      let c = conditions l h code events bytes q in
+      rw (q, c .1 .0, c .1 .1) (move-appends (Return code) (λ i. i) (rw q) code (c .0))
 
   -- THE PROMISE: where committed is said, exactly the staged bytes were appended
   pub commit-appends : (code : ℤ) (events bytes : ℕ) → step w (Return code) .said ≡ Ended (Committed events bytes) → Appended w (step w (Return code) .world)

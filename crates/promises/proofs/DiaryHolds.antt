@@ -8,7 +8,6 @@ use native.Mathlib.Omega.{arith}
 use native.Mathlib.Nat.{add-zero, add-assoc}
 use lib.Dec.{leb}
 use lib.ListN.{length, take, length-replicate}
-use lib.Seq.{length-take-le}
 use Rattle.le.specs.Splice.{part, splice, zeros}
 use Rattle.le.specs.Le.{Bytes}
 use Rattle.le.proofs.SpliceLaws.{length-splice}
@@ -17,7 +16,7 @@ use Rattle.card.specs.Pick.{All}
 use Rattle.card.specs.Records.{upTo, records}
 use Rattle.card.specs.Walk.{chainTo}
 use Rattle.card.proofs.PickLaws.{all-map}
-use Rattle.card.proofs.WalkLaws.{laid-records, laid-chain, laid-one, laid-next, to-chain}
+use Rattle.card.proofs.WalkLaws.{laid-one, laid-next, to-chain}
 use Rattle.weave.specs.declared.Code.the-variants.{Fine}
 use Rattle.weave.specs.declared.Weave.{Weave}
 use Rattle.weave.specs.Sums.{added}
@@ -27,13 +26,13 @@ use Rattle.takes.specs.Begun.{traceOf, begun}
 use Rattle.host.specs.Hosts.{Lent, lentAs, withWeave}
 use Rattle.host.specs.Ending.{committed}
 use Rattle.mounts.specs.Mount.{mounted}
-use Rattle.promises.specs.Box.{World, recordsOn, Op, step, memoryOf, LendsBytes, mountedUnder, mountedAs, run}
+use Rattle.promises.specs.Box.{World, recordsOn, stagedRecords, Op, step, memoryOf, LendsBytes, mountedUnder, mountedAs, run}
 use Rattle.promises.specs.Diary.{Diary, entered, diary, firstPage, Agrees}
-use Rattle.promises.proofs.AcceptedLaws.{lawful}
 use Rattle.promises.proofs.MountHolds.{mount-fine}
 use Rattle.promises.proofs.StagedLaws.{Stageable}
 use Rattle.promises.proofs.MoveLaws.{Affords, Cost, Unpaid, Free, Paid, Staging, Kept, Staged, Move, Rests, Begins, GoesOn, Commits, Discards, unitsAfter, stagedAfter, countAfter, stagingAfter, stagedBy, unitsBy, after, entryBy}
 use Rattle.promises.proofs.MovesHold.{moved}
+use Rattle.promises.proofs.CardHolds.{move-appends, appended-records}
 
 -- ---- what is staged
 
@@ -138,25 +137,15 @@ module _ (w : World) (o : Op) (bytes : Bytes (memoryOf o)) (d : Diary) (a : Agre
       }
   agrees-move (Discards i) = emptied-agrees freshWeave _ refl refl refl fresh-trace
   agrees-move (Commits i s code c) =
-      let l = w .lent in
-      let h = w .host in
-      let law = lawful l h (c .check-1) in
-      let put = take (h .weave .staged) (l .staging) in
-      let long : length put ≡ h .weave .staged = length-take-le (h .weave .staged) (l .staging) (a .in-staging) in
-      let room : h .used + length put ≤ length (l .card) = rw long (c .fits) in
-      let sums : added (h .used) (h .weave .staged) (h .lengths .card) ≡ h .used + length put = rw long (added-sum (h .used) (h .weave .staged) (h .lengths .card) (rw (← law .card-long) (c .fits))) in
-      let ids : added (h .next .0) (h .weave .count) (2 ^ 63) ≡ h .next .0 + h .weave .count = added-sum (h .next .0) (h .weave .count) (2 ^ 63) (law .numbers) in
-      let n = none-carried (zeros (length (l .staging))) (added (h .next .0) (h .weave .count) (2 ^ 63)) in
+      let d′ = move-appends w o i s code c in
+      let r = appended-records w (after w o (Commits i s code c)) d′ (a .chained) (a .carried) in
+      let n = none-carried (zeros (length (w .lent .staging))) (after w o (Commits i s code c) .host .next .0) in
       record {
-        on-card = rw (sums, length-splice) room;
+        on-card = rw (d′ .used, d′ .others .long) (c .fits);
         in-staging = n .within;
         traced = fresh-trace;
-        chained = rw (sums, ids) (laid-chain (l .card) (h .used) 1 (h .next .0) put room (a .chained) (h .next .0 + h .weave .count) (a .carried));
-        kept =
-            rw sums
-            (laid-records (l .card) (h .used) 1 (h .next .0) put room (a .chained)
-            ∙ ap (λ (rs : List (List ℕ)). rs ++ records put (h .next .0)) (a .kept)
-            ∙ ap (λ (rs : List (List ℕ)). d .kept ++ rs) (a .staged));
+        chained = r .0;
+        kept = r .1 ∙ ap (λ (rs : List (List ℕ)). rs ++ stagedRecords w) (a .kept) ∙ ap (λ (rs : List (List ℕ)). d .kept ++ rs) (a .staged);
         carried = n .chained;
         staged = n .are;
         units = refl;

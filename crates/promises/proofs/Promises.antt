@@ -55,7 +55,7 @@ use Rattle.promises.specs.TwoBands.{Beside, CardsAlike, Alike, Call, ask
 use Rattle.promises.specs.SideBySide.{AllKeepTo, Together, Exchanged, AgreeByNumber}
 use Rattle.promises.specs.Naming.{NoDel, Clean, namedIn, GoodIn01, MayFollow}
 use Rattle.promises.specs.Charging.{edition, Made, saidBy}
-use Rattle.promises.specs.Bands.{inBandB}
+use Rattle.promises.specs.Bands.{inBandB, BandBsTurn}
 use Rattle.promises.specs.TwoWeaves.{saidOver, twoModules, theCalls, theAnswers}
 use Rattle.promises.proofs.AcceptedLaws.{lawful, fine-lawful, settle-ok}
 use Rattle.promises.proofs.OutcomeHolds.{committed-exactly}
@@ -86,7 +86,7 @@ use Rattle.promises.proofs.NamingHolds.{kept-exactly, called-exactly, n
 use Rattle.promises.proofs.ChargingHolds.{life-rule, made-exactly, says-so, by-edition}
 use Rattle.promises.proofs.CommitRuns.{oneModule, commits-one}
 use Rattle.promises.proofs.TwoRuns.{all-said}
-use Rattle.promises.proofs.BandsRuns.{bands-alike, bands-differ}
+use Rattle.promises.proofs.BandsRuns.{bands-turn, bands-alike, bands-differ}
 
 -- ==== 1. "a refusal changes no lent byte and, but for the spoiled mark, no state"
 
@@ -386,10 +386,10 @@ hidden-events-differ-at-will = exchanged-alike
 module _ (staging text card₁ card₂ : List ℕ) (used : ℕ) (long : length card₁ ≡ length card₂)
     (fine₁ : mounted (lentAs staging card₁ text) used .code ≡ Fine) (fine₂ : mounted (lentAs staging card₂ text) used .code ≡ Fine)
     (many : length (recordsOn card₁ used) ≡ length (recordsOn card₂ used)) where
-  pub two-boxes-live-side-by-side : (seen : ℕ → Type 0)
-      → ((k : ℕ) → seen k → (r : List ℕ) → mayRead text k (topicOf r) ≡ true → List·Memᴰ r (recordsOn card₁ used) ↔ List·Memᴰ r (recordsOn card₂ used))
-      → (os : List Op) → AllKeepTo seen (mountedAs (lentAs staging card₁ text) used) os
-      → Together seen (mountedAs (lentAs staging card₁ text) used) (mountedAs (lentAs staging card₂ text) used) os
+  pub two-boxes-live-side-by-side : (listeners : ℕ → Type 0)
+      → ((k : ℕ) → listeners k → (r : List ℕ) → mayRead text k (topicOf r) ≡ true → List·Memᴰ r (recordsOn card₁ used) ↔ List·Memᴰ r (recordsOn card₂ used))
+      → (os : List Op) → AllKeepTo listeners (mountedAs (lentAs staging card₁ text) used) os
+      → Together listeners (mountedAs (lentAs staging card₁ text) used) (mountedAs (lentAs staging card₂ text) used) os
   two-boxes-live-side-by-side = lives-alike staging text card₁ card₂ used long fine₁ fine₂ many
 
 -- ==== 02, A2: byte 127, DEL
@@ -523,8 +523,11 @@ pub a-run-of-two-modules : (n c : ℕ) → 65536 ≤ n → n ≤ 1048576 → 136
     → saidOver (mountedAs (lentAs (zeros n) (zeros c) twoModules) 0) theCalls ≡ theAnswers
 a-run-of-two-modules = all-said
 
--- and of two bands (promises/Bands): reached by mount, begin, ingress and band A's turn, two boxes are alike in band B's turn, whatever band A has played, and differ where it has not played the same
+-- and of two bands (promises/Bands): after mount, begin, ingress and band A's turn it is band B's. Whatever payload band A's take has, the boxes are then alike; and where it is not the same, they differ
 module _ (n : ℕ) (least : 65536 ≤ n) (most : n ≤ 1048576) (p q : List ℕ) (long : length p ≡ length q) (short : length p ≤ 1000000) where
+  pub it-is-band-bs-turn : BandBsTurn (inBandB n p) p
+  it-is-band-bs-turn = bands-turn n least most p short
+
   pub two-boxes-are-alike : Alike (inBandB n p) (inBandB n q)
   two-boxes-are-alike = bands-alike n least most p q long short
 

@@ -26,11 +26,11 @@ use Rattle.promises.proofs.TwoBandsLaws.{stepWith, step-same, is-with}
 
 -- ---- one call
 
-module _ (seen : ℕ → Type 0) (w₁ w₂ : World) (b : Beside w₁ w₂) (alike : (k : ℕ) → seen k → CardsAlike k w₁ w₂) (o : Op) (keeps : KeepsTo seen w₁ o) where
+module _ (listeners : ℕ → Type 0) (w₁ w₂ : World) (b : Beside w₁ w₂) (alike : (k : ℕ) → listeners k → CardsAlike k w₁ w₂) (o : Op) (keeps : KeepsTo listeners w₁ o) where
   same-step : step w₂ o ≡ stepWith (step w₁ o) (step w₂ o .world .lent .card)
   same-step =
-      subst (λ (w : World). ((k : ℕ) → seen k → CardsAlike k w₁ w) → step w o ≡ stepWith (step w₁ o) (step w o .world .lent .card)) (is-with w₁ w₂ b)
-      (λ c. step-same w₁ (w₂ .lent .card) (b .card-length) seen c o keeps) alike
+      subst (λ (w : World). ((k : ℕ) → listeners k → CardsAlike k w₁ w) → step w o ≡ stepWith (step w₁ o) (step w o .world .lent .card)) (is-with w₁ w₂ b)
+      (λ c. step-same w₁ (w₂ .lent .card) (b .card-length) listeners c o keeps) alike
 
   heard-same : heardOf w₁ o ≡ heardOf w₂ o
   heard-same = sym (ap (λ (s : Step). record { said = s .said; field = s .field; memory = s .memory }) same-step)
@@ -81,12 +81,12 @@ module _ (seen : ℕ → Type 0) (w₁ w₂ : World) (b : Beside w₁ w₂) (ali
 
 -- ---- any calls
 
-pub side-by-side : (seen : ℕ → Type 0) (os : List Op) (w₁ w₂ : World) → Beside w₁ w₂ → ((k : ℕ) → seen k → CardsAlike k w₁ w₂) → AllKeepTo seen w₁ os → Together seen w₁ w₂ os
-side-by-side seen [] w₁ w₂ b c keep = record { hears = refl; beside = b; cards = c }
-side-by-side seen (o ∷ os) w₁ w₂ b c keep =
+pub side-by-side : (listeners : ℕ → Type 0) (os : List Op) (w₁ w₂ : World) → Beside w₁ w₂ → ((k : ℕ) → listeners k → CardsAlike k w₁ w₂) → AllKeepTo listeners w₁ os → Together listeners w₁ w₂ os
+side-by-side listeners [] w₁ w₂ b c keep = record { hears = refl; beside = b; cards = c }
+side-by-side listeners (o ∷ os) w₁ w₂ b c keep =
     let rest =
-    side-by-side seen os (step w₁ o .world) (step w₂ o .world) (beside-on seen w₁ w₂ b c o (keep .0)) (λ k s. cards-on seen w₁ w₂ b c o (keep .0) k (c k s)) (keep .1) in
-    record { hears = λ i. heard-same seen w₁ w₂ b c o (keep .0) i ∷ rest .hears i; beside = rest .beside; cards = rest .cards }
+    side-by-side listeners os (step w₁ o .world) (step w₂ o .world) (beside-on listeners w₁ w₂ b c o (keep .0)) (λ k s. cards-on listeners w₁ w₂ b c o (keep .0) k (c k s)) (keep .1) in
+    record { hears = λ i. heard-same listeners w₁ w₂ b c o (keep .0) i ∷ rest .hears i; beside = rest .beside; cards = rest .cards }
 
 -- ---- a module's calls
 
@@ -128,17 +128,17 @@ unfolding written panicked withWeave spoilt paid holding
 written-turn h true cost t d n = refl
 written-turn h false cost t d n = refl
 
-record Ordinary (w : World) (o : Op) : Type 0 where
+record InItsTurn (w : World) (o : Op) : Type 0 where
   turn : step w o .world .host .weave .turn ≡ w .host .weave .turn
   keeps : KeepsTo (λ (k : ℕ). k ≡ w .host .weave .turn) w o
 
-ordinary : (w : World) (c : Call) → Ordinary w (asked c)
+stays-in-turn : (w : World) (c : Call) → InItsTurn w (asked c)
 unfolding step writeAnswer readAnswer openAnswer nextAnswer closeAnswer withWeave paid openNext openedWith nextHost movedTo closeNext closedAt tabled
-ordinary w (ToWrite m a) = record { turn = settle-turn (w .host) _ _ _ (written-turn (w .host) (isPanic m a) _ _ _ _); keeps = tt }
-ordinary w (ToRead m a) = record { turn = settle-turn (w .host) _ _ _ refl; keeps = tt }
-ordinary w (ToOpen m a) = record { turn = settle-turn (w .host) _ _ _ refl; keeps = tt }
-ordinary w (ToNext m a) = record { turn = settle-turn (w .host) _ _ _ refl; keeps = refl }
-ordinary w (ToClose m a) = record { turn = settle-turn (w .host) _ _ _ refl; keeps = tt }
+stays-in-turn w (ToWrite m a) = record { turn = settle-turn (w .host) _ _ _ (written-turn (w .host) (isPanic m a) _ _ _ _); keeps = tt }
+stays-in-turn w (ToRead m a) = record { turn = settle-turn (w .host) _ _ _ refl; keeps = tt }
+stays-in-turn w (ToOpen m a) = record { turn = settle-turn (w .host) _ _ _ refl; keeps = tt }
+stays-in-turn w (ToNext m a) = record { turn = settle-turn (w .host) _ _ _ refl; keeps = refl }
+stays-in-turn w (ToClose m a) = record { turn = settle-turn (w .host) _ _ _ refl; keeps = tt }
 
 record TurnKept (t : ℕ) (w : World) (cs : List Call) : Type 0 where
   keep : AllKeepTo (λ (k : ℕ). k ≡ t) w (map asked cs)
@@ -147,7 +147,7 @@ record TurnKept (t : ℕ) (w : World) (cs : List Call) : Type 0 where
 in-turn : (t : ℕ) (cs : List Call) (w : World) → w .host .weave .turn ≡ t → TurnKept t w cs
 in-turn t [] w e = record { keep = tt; turn = e }
 in-turn t (c ∷ cs) w e =
-    let here = ordinary w c in
+    let here = stays-in-turn w c in
     let rest = in-turn t cs (step w (asked c) .world) (here .turn ∙ e) in
     record {
       keep = (subst (λ (n : ℕ). KeepsTo (λ (k : ℕ). k ≡ n) w (asked c)) e (here .keeps), rest .keep);

@@ -108,17 +108,17 @@ module _ (w : World) (card′ : List ℕ) (long : length (w .lent .card) ≡ len
       next-same = rw (next-sound, next-page)
 
   -- THE LAW: a call says the same in both, and leaves the same but for the card
-  pub step-same : (seen : ℕ → Type 0) → ((k : ℕ) → seen k → CardsAlike k w w′) → (o : Op) → KeepsTo seen w o → step w′ o ≡ stepWith (step w o) (step w′ o .world .lent .card)
+  pub step-same : (listeners : ℕ → Type 0) → ((k : ℕ) → listeners k → CardsAlike k w w′) → (o : Op) → KeepsTo listeners w o → step w′ o ≡ stepWith (step w o) (step w′ o .world .lent .card)
   unfolding step beginAnswer beginStaging ingressAnswer ingressStaging writeAnswer writeStaging readAnswer readMemory readList openAnswer closeAnswer nextAnswer nextMemory nextCursor returnAnswer returnStaging
-  step-same seen cards (Begin args) k = rw (begin-same args)
-  step-same seen cards (Ingress topic payload) k = rw (ingress-same topic payload)
-  step-same seen cards (Write m a) k = rw (write-same m a)
-  step-same seen cards (Read m a) k = rw (read-same m a, read-page m a)
-  step-same seen cards (Open m a) k = rw (open-same m a)
-  step-same seen cards (Next m a) k = let c = cards (h .weave .turn) k in rw (next-same m a c, next-page m a c, list-same m a c)
-  step-same seen cards (Close m a) k = rw (close-same m a)
-  step-same seen cards (Return code) k = rw (fate-same code)
-  step-same seen cards (LookUp id) k = absurd k
+  step-same listeners cards (Begin args) k = rw (begin-same args)
+  step-same listeners cards (Ingress topic payload) k = rw (ingress-same topic payload)
+  step-same listeners cards (Write m a) k = rw (write-same m a)
+  step-same listeners cards (Read m a) k = rw (read-same m a, read-page m a)
+  step-same listeners cards (Open m a) k = rw (open-same m a)
+  step-same listeners cards (Next m a) k = let c = cards (h .weave .turn) k in rw (next-same m a c, next-page m a c, list-same m a c)
+  step-same listeners cards (Close m a) k = rw (close-same m a)
+  step-same listeners cards (Return code) k = rw (fate-same code)
+  step-same listeners cards (LookUp id) k = absurd k
 
 -- ---- the second of two boxes is the first, with a card of its own
 pub is-with : (w₁ w₂ : World) → Beside w₁ w₂ → withCard w₁ (w₂ .lent .card) ≡ w₂

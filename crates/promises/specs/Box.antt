@@ -45,9 +45,12 @@ recordsOn card used = records (take used card) 1
 abbrev pub cardRecords : World → List (List ℕ)
 cardRecords w = recordsOn (w .lent .card) (w .host .used)
 
--- the used part is "a chain of sound records numbered from 1 up to the next number"
+-- bytes that begin a card: "a chain of sound records numbered from 1 up to the next number"; and so the used part
+abbrev pub startsCard : List ℕ → ℕ → Bool
+startsCard s next = chainTo s 1 next
+
 abbrev pub cardChained : Lent → Host → Bool
-cardChained l h = chainTo (take (h .used) (l .card)) 1 (h .next .0)
+cardChained l h = startsCard (take (h .used) (l .card)) (h .next .0)
 
 -- the staged part, and its records: "a staged event already has the id it will have if committed"
 abbrev pub stagedPart : Lent → Host → List ℕ

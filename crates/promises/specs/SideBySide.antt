@@ -9,32 +9,32 @@ use lib.ListN.{length, getD}
 use Rattle.card.specs.Pick.{All}
 use Rattle.card.specs.Records.{records}
 use Rattle.card.specs.Walk.{chainTo}
-use Rattle.promises.specs.Box.{World, cardRecords, Op, Begin, Ingress, Write, Read, Open, Next, Close, Return, LookUp, step, run}
+use Rattle.promises.specs.Box.{World, startsCard, cardRecords, Op, Begin, Ingress, Write, Read, Open, Next, Close, Return, LookUp, step, run}
 use Rattle.promises.specs.TwoBands.{Beside, isGranted, CardsAlike, heardOver}
 
 -- ---- the same life
 
--- Whoever calls, a call that keeps to what the modules of `seen` may see: no look-up, which shows the host any event; and a next only in the turn of one of these modules
+-- Whoever calls, a call that keeps to what the modules of `listeners` may see: no look-up, which shows the host any event; and a next only in the turn of one of these modules
 abbrev pub KeepsTo : (ℕ → Type 0) → World → Op → Type 0
-KeepsTo seen w (Begin args) = Unit {0}
-KeepsTo seen w (Ingress topic payload) = Unit {0}
-KeepsTo seen w (Write m a) = Unit {0}
-KeepsTo seen w (Read m a) = Unit {0}
-KeepsTo seen w (Open m a) = Unit {0}
-KeepsTo seen w (Next m a) = seen (w .host .weave .turn)
-KeepsTo seen w (Close m a) = Unit {0}
-KeepsTo seen w (Return code) = Unit {0}
-KeepsTo seen w (LookUp id) = ⊥
+KeepsTo listeners w (Begin args) = Unit {0}
+KeepsTo listeners w (Ingress topic payload) = Unit {0}
+KeepsTo listeners w (Write m a) = Unit {0}
+KeepsTo listeners w (Read m a) = Unit {0}
+KeepsTo listeners w (Open m a) = Unit {0}
+KeepsTo listeners w (Next m a) = listeners (w .host .weave .turn)
+KeepsTo listeners w (Close m a) = Unit {0}
+KeepsTo listeners w (Return code) = Unit {0}
+KeepsTo listeners w (LookUp id) = ⊥
 
 abbrev pub AllKeepTo : (ℕ → Type 0) → World → List Op → Type 0
-AllKeepTo seen w [] = Unit {0}
-AllKeepTo seen w (o ∷ os) = KeepsTo seen w o × AllKeepTo seen (step w o .world) os
+AllKeepTo listeners w [] = Unit {0}
+AllKeepTo listeners w (o ∷ os) = KeepsTo listeners w o × AllKeepTo listeners (step w o .world) os
 
 -- Two boxes that led the same life so far
-pub record Together (seen : ℕ → Type 0) (w₁ w₂ : World) (os : List Op) : Type 0 where
+pub record Together (listeners : ℕ → Type 0) (w₁ w₂ : World) (os : List Op) : Type 0 where
   pub hears : heardOver w₁ os ≡ heardOver w₂ os
   pub beside : Beside (run w₁ os) (run w₂ os)
-  pub cards : (k : ℕ) → seen k → CardsAlike k (run w₁ os) (run w₂ os)
+  pub cards : (k : ℕ) → listeners k → CardsAlike k (run w₁ os) (run w₂ os)
 
 -- ---- the other events
 
@@ -55,7 +55,7 @@ pub record Exchanged (k : ℕ) (w₁ w₂ : World) : Type 0 where
   pub used : w₁ .host .used ≡ length (front ++ (was ++ back))
   pub long : length is ≡ length was
   -- each carries the chain on: "Ids start at 1 and rise by 1"
-  pub front-sound : chainTo front 1 first ≡ true
+  pub front-sound : startsCard front first ≡ true
   pub was-sound : chainTo was first next ≡ true
   pub is-sound : chainTo is first next ≡ true
   pub back-sound : chainTo back next (w₁ .host .next .0) ≡ true

@@ -33,7 +33,7 @@ pub record CardsAlike (k : ℕ) (w₁ w₂ : World) : Type 0 where
   pub sound₁ : cardChained (w₁ .lent) (w₁ .host) ≡ true
   pub sound₂ : cardChained (w₂ .lent) (w₂ .host) ≡ true
   -- "that agree on every event granted `in` to that module": such an event is on the one card exactly when it is on the other, byte for byte, its number among its bytes.
-  -- "The other events differ at will": nothing is said of them, not which numbers they have and not how long each is.
+  -- "The other events differ at will": nothing is said of them, of what they are about, what they hold and how long each is. (Their numbers are those that are left.)
   pub agree : (r : List ℕ) → isGranted k w₁ r ≡ true → List·Memᴰ r (cardRecords w₁) ↔ List·Memᴰ r (cardRecords w₂)
 
 -- "Take two hosts at the start of one module's turn", or later in it: any state, with any table of cursors, that is the same in both
@@ -43,7 +43,7 @@ pub record Alike (w₁ w₂ : World) : Type 0 where
 
 -- ---- that module's calls
 
--- "Module calls are write, read, tl_open, tl_next and tl_close", each with any memory and any address. Begin, ingress, return and look-up are the host's own.
+-- "Module calls are write, read, tl_open, tl_next and tl_close", each with any memory and any address. Begin, ingress and look-up are the host's; the module's return has a part of its own below.
 pub data Call : Type 0 where
   ToWrite ToRead ToOpen ToNext ToClose : List ℕ → ℕ → Call
 
