@@ -15,6 +15,7 @@ use weave::Weave;
 // What the box knows between two calls.
 pub struct Host {
     pub lengths: Lengths,
+    pub index: usize, // how many entries the table has that lies beside the card
     pub used: usize,
     pub next: EventId,
     pub faulted: bool,

@@ -69,6 +69,7 @@ stateOf h =
       staginglen = h .lengths .staging;
       cardlen = h .lengths .card;
       manifestlen = h .lengths .«manifest»;
+      indexlen = h .index;
       used = h .used;
       next = h .next .0;
       faulted = flag (h .faulted);
@@ -107,6 +108,7 @@ unfoldable pub hostSaid : State → Host
 hostSaid s =
     record {
       lengths = record { staging = s .staginglen; card = s .cardlen; «manifest» = s .manifestlen };
+      index = s .indexlen;
       used = s .used;
       next = record { 0 = s .next };
       faulted = flagSaid (s .faulted);

@@ -73,13 +73,14 @@ pub extern "C" fn loafheron_next(
     staging: &[u8],
     card: &[u8],
     manifest: &[u8],
+    index: &[u32],
     at: u64,
 ) -> Reply
-    ensures answer { λ r. ⌜ r ≡ reply (nextAnswer (lentAs (now (staging .entry)) (now (card .entry)) (now («manifest» .entry))) (hostSaid state) (now (memory .entry)) at) ⌝ }
-    ensures bytes { λ _. ⌜ now (memory .exit) ≡ nextMemory (lentAs (now (staging .entry)) (now (card .entry)) (now («manifest» .entry))) (hostSaid state) (now (memory .entry)) at ⌝ }
+    ensures answer { λ r. ⌜ r ≡ reply (nextAnswer (lentAs (now (staging .entry)) (now (card .entry)) (now («manifest» .entry))) (now (index .entry)) (hostSaid state) (now (memory .entry)) at) ⌝ }
+    ensures bytes { λ _. ⌜ now (memory .exit) ≡ nextMemory (lentAs (now (staging .entry)) (now (card .entry)) (now («manifest» .entry))) (now (index .entry)) (hostSaid state) (now (memory .entry)) at ⌝ }
 {
     let h = host_said(state);
-    let a = next(h, memory, staging, card, manifest, at);
+    let a = next(h, memory, staging, card, manifest, index, at);
     reply(a)
 }
 

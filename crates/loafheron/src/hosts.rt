@@ -31,6 +31,7 @@ pub(crate) fn state_of(h: Host) -> State
         staginglen: n.staging as u64,
         cardlen: n.card as u64,
         manifestlen: n.manifest as u64,
+        indexlen: h.index as u64,
         used: h.used as u64,
         next: h.next.0,
         faulted,
@@ -86,6 +87,7 @@ pub(crate) fn host_said(s: State) -> Host
     };
     Host {
         lengths,
+        index: s.indexlen as usize,
         used: s.used as usize,
         next: EventId(s.next),
         faulted,

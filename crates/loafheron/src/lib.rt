@@ -29,6 +29,7 @@ pub struct State {
     pub staginglen: u64,
     pub cardlen: u64,
     pub manifestlen: u64,
+    pub indexlen: u64,
     pub used: u64,
     pub next: u64,
     pub faulted: u64,

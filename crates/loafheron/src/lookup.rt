@@ -14,12 +14,12 @@ use record::EventId;
 
 impl State {
     // Its bytes, as a C program counts them.
-    pub const SIZE: u64 = 608;
+    pub const SIZE: u64 = 616;
 }
 
 #[no_mangle]
 pub extern "C" fn loafheron_state_size() -> u64
-    ensures { λ r. ⌜ r ≡ 608 ⌝ }
+    ensures { λ r. ⌜ r ≡ 616 ⌝ }
 {
     State::SIZE
 }
@@ -46,13 +46,14 @@ pub extern "C" fn loafheron_look_up(
     staging: &[u8],
     card: &[u8],
     manifest: &[u8],
+    index: &[u32],
     id: u64,
 ) -> Place
-    ensures place { λ r. ⌜ r ≡ placeSaid (placeOf (lentAs (now (staging .entry)) (now (card .entry)) (now («manifest» .entry))) (hostSaid state) id) ⌝ }
-    ensures bytes { λ r. ⌜ foundAt (lentAs (now (staging .entry)) (now (card .entry)) (now («manifest» .entry))) r ≡ looked (lentAs (now (staging .entry)) (now (card .entry)) (now («manifest» .entry))) (hostSaid state) id ⌝ }
+    ensures place { λ r. ⌜ r ≡ placeSaid (placeOf (lentAs (now (staging .entry)) (now (card .entry)) (now («manifest» .entry))) (now (index .entry)) (hostSaid state) id) ⌝ }
+    ensures bytes { λ r. ⌜ foundAt (lentAs (now (staging .entry)) (now (card .entry)) (now («manifest» .entry))) r ≡ looked (lentAs (now (staging .entry)) (now (card .entry)) (now («manifest» .entry))) (now (index .entry)) (hostSaid state) id ⌝ }
 {
     let h = host_said(state);
-    let p = place_of(h, staging, card, manifest, EventId(id));
+    let p = place_of(h, staging, card, manifest, index, EventId(id));
     let side = p.side;
     let buffer = side_number(side);
     Place {

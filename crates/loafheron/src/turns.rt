@@ -1,10 +1,10 @@
 // What the box itself calls: mount, begin, ingress, return.
 ghost use mathlib.Core.Path.{_≡_};
 ghost use Rattle.host.specs.Hosts.{lentAs};
-ghost use Rattle.mounts.specs.Mount.{mounted};
+ghost use Rattle.mounts.specs.Mount.{mounted, mountIndex};
 ghost use Rattle.host.specs.Begin.{beginAnswer, beginStaging};
 ghost use Rattle.writes.specs.Stage.{ingressAnswer, ingressStaging};
-ghost use Rattle.host.specs.Ending.{returnAnswer, returnCard, returnStaging};
+ghost use Rattle.host.specs.Ending.{returnAnswer, returnCard, returnIndex, returnStaging};
 ghost use Rattle.loafheron.specs.Crossing.{hostSaid};
 ghost use Rattle.loafheron.specs.Answers.{mountReply, reply, returnReply};
 use crate::MountReply;
@@ -23,11 +23,13 @@ pub extern "C" fn loafheron_mount(
     staging: &[u8],
     card: &[u8],
     manifest: &[u8],
+    index: &mut [u32],
     used: u64,
 ) -> MountReply
-    ensures { λ r. ⌜ r ≡ mountReply (mounted (lentAs (now (staging .entry)) (now (card .entry)) (now («manifest» .entry))) used) ⌝ }
+    ensures answer { λ r. ⌜ r ≡ mountReply (mounted (lentAs (now (staging .entry)) (now (card .entry)) (now («manifest» .entry))) (now (index .entry)) used) ⌝ }
+    ensures entries { λ _. ⌜ now (index .exit) ≡ mountIndex (lentAs (now (staging .entry)) (now (card .entry)) (now («manifest» .entry))) (now (index .entry)) used ⌝ }
 {
-    let m = mount(staging, card, manifest, used as usize);
+    let m = mount(staging, card, manifest, index, used as usize);
     mount_reply(m)
 }
 
@@ -70,13 +72,15 @@ pub extern "C" fn loafheron_return(
     staging: &mut [u8],
     card: &mut [u8],
     manifest: &[u8],
+    index: &mut [u32],
     code: i64,
 ) -> ReturnReply
-    ensures answer { λ r. ⌜ r ≡ returnReply (returnAnswer (lentAs (now (staging .entry)) (now (card .entry)) (now («manifest» .entry))) (hostSaid state) code) ⌝ }
-    ensures onto { λ _. ⌜ now (card .exit) ≡ returnCard (lentAs (now (staging .entry)) (now (card .entry)) (now («manifest» .entry))) (hostSaid state) code ⌝ }
-    ensures staged { λ _. ⌜ now (staging .exit) ≡ returnStaging (lentAs (now (staging .entry)) (now (card .entry)) (now («manifest» .entry))) (hostSaid state) code ⌝ }
+    ensures answer { λ r. ⌜ r ≡ returnReply (returnAnswer (lentAs (now (staging .entry)) (now (card .entry)) (now («manifest» .entry))) (now (index .entry)) (hostSaid state) code) ⌝ }
+    ensures onto { λ _. ⌜ now (card .exit) ≡ returnCard (lentAs (now (staging .entry)) (now (card .entry)) (now («manifest» .entry))) (now (index .entry)) (hostSaid state) code ⌝ }
+    ensures entries { λ _. ⌜ now (index .exit) ≡ returnIndex (lentAs (now (staging .entry)) (now (card .entry)) (now («manifest» .entry))) (now (index .entry)) (hostSaid state) code ⌝ }
+    ensures staged { λ _. ⌜ now (staging .exit) ≡ returnStaging (lentAs (now (staging .entry)) (now (card .entry)) (now («manifest» .entry))) (now (index .entry)) (hostSaid state) code ⌝ }
 {
     let h = host_said(state);
-    let r = h.module_return(staging, card, manifest, code);
+    let r = h.module_return(staging, card, manifest, index, code);
     return_reply(r)
 }

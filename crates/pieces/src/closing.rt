@@ -12,6 +12,7 @@ use crate::Told;
 use script::Buffer;
 use script::say::put_byte;
 use script::say::put_bytes;
+use session::Index;
 use session::Session;
 use text::compare::starts_with;
 
@@ -63,16 +64,17 @@ impl Play {
         staging: &mut Buffer,
         card: &mut Buffer,
         text: &mut Buffer,
+        index: &mut Index,
         out: &mut Buffer,
     ) -> Told
-        ensures { λ r. ⌜ Hears (closed (standOf self (now (line .entry)) (buffersOf (now (memory .entry)) (now (staging .entry)) (now (card .entry)) (now (text .entry))))) (standOf (r .play) (now (line .entry)) (buffersOf (now (memory .exit)) (now (staging .exit)) (now (card .exit)) (now (text .exit)))) (now (out .entry)) (now (out .exit)) (r .wrote) ⌝ }
+        ensures { λ r. ⌜ Hears (closed (standOf self (now (line .entry)) (buffersOf (now (memory .entry)) (now (staging .entry)) (now (card .entry)) (now (text .entry)) (now (index .entry))))) (standOf (r .play) (now (line .entry)) (buffersOf (now (memory .exit)) (now (staging .exit)) (now (card .exit)) (now (text .exit)) (now (index .exit)))) (now (out .entry)) (now (out .exit)) (r .wrote) ⌝ }
     {
         let l = le::front(line, self.held);
         if is_name(self.many, l) {
             return self.title(l, out);
         }
         let session = self.session;
-        let said = session.answer(l, memory, staging, card, text, out);
+        let said = session.answer(l, memory, staging, card, text, index, out);
         let next = said.next;
         Told {
             wrote: said.wrote,

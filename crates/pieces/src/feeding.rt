@@ -9,6 +9,7 @@ use crate::Step;
 use libc::STDOUT_FILENO;
 use script::Buffer;
 use script::gather::gather;
+use session::Index;
 
 // What one line printed. No contract can say what reaches standard output: this hand-over is only tested.
 fn tell(out: &Buffer, n: usize) {
@@ -38,16 +39,17 @@ impl Play {
         staging: &mut Buffer,
         card: &mut Buffer,
         text: &mut Buffer,
+        index: &mut Index,
         out: &mut Buffer,
     ) -> Step
-        ensures { λ r. ⌜ Hears (oneLine (standOf self (now (line .entry)) (buffersOf (now (memory .entry)) (now (staging .entry)) (now (card .entry)) (now (text .entry)))) (drop at (now (piece .entry)))) (standOf (r .play) (now (line .exit)) (buffersOf (now (memory .exit)) (now (staging .exit)) (now (card .exit)) (now (text .exit)))) (now (out .entry)) (now (out .exit)) (r .wrote) ⌝ }
+        ensures { λ r. ⌜ Hears (oneLine (standOf self (now (line .entry)) (buffersOf (now (memory .entry)) (now (staging .entry)) (now (card .entry)) (now (text .entry)) (now (index .entry)))) (drop at (now (piece .entry)))) (standOf (r .play) (now (line .exit)) (buffersOf (now (memory .exit)) (now (staging .exit)) (now (card .exit)) (now (text .exit)) (now (index .exit)))) (now (out .entry)) (now (out .exit)) (r .wrote) ⌝ }
         ensures { λ r. ⌜ r .at ≡ gathered (now (piece .entry)) at 0 .at ⌝ }
     {
         let held = le::front(line, self.held).len();
         let g = gather(piece, at, line, held);
         let next = self.holding(g.held);
         if g.whole {
-            let t = next.closed(line, memory, staging, card, text, out);
+            let t = next.closed(line, memory, staging, card, text, index, out);
             let play = t.play;
             return Step {
                 wrote: t.wrote,
@@ -71,14 +73,15 @@ impl Play {
         staging: &mut Buffer,
         card: &mut Buffer,
         text: &mut Buffer,
+        index: &mut Index,
         out: &mut Buffer,
     ) -> Play
-        ensures { λ r. ⌜ standOf r (now (line .exit)) (buffersOf (now (memory .exit)) (now (staging .exit)) (now (card .exit)) (now (text .exit))) ≡ fed (standOf self (now (line .entry)) (buffersOf (now (memory .entry)) (now (staging .entry)) (now (card .entry)) (now (text .entry)))) (now (piece .entry)) .stand ⌝ }
+        ensures { λ r. ⌜ standOf r (now (line .exit)) (buffersOf (now (memory .exit)) (now (staging .exit)) (now (card .exit)) (now (text .exit)) (now (index .exit))) ≡ fed (standOf self (now (line .entry)) (buffersOf (now (memory .entry)) (now (staging .entry)) (now (card .entry)) (now (text .entry)) (now (index .entry)))) (now (piece .entry)) .stand ⌝ }
     {
         let mut play = self;
         let mut at = 0;
         while at < piece.len() {
-            let s = play.step(piece, at, line, memory, staging, card, text, out);
+            let s = play.step(piece, at, line, memory, staging, card, text, index, out);
             tell(out, s.wrote);
             at = s.at;
             let next = s.play;
@@ -95,14 +98,15 @@ impl Play {
         staging: &mut Buffer,
         card: &mut Buffer,
         text: &mut Buffer,
+        index: &mut Index,
         out: &mut Buffer,
     ) -> Play
-        ensures { λ r. ⌜ standOf r (now (line .entry)) (buffersOf (now (memory .exit)) (now (staging .exit)) (now (card .exit)) (now (text .exit))) ≡ lastLine (standOf self (now (line .entry)) (buffersOf (now (memory .entry)) (now (staging .entry)) (now (card .entry)) (now (text .entry)))) .stand ⌝ }
+        ensures { λ r. ⌜ standOf r (now (line .entry)) (buffersOf (now (memory .exit)) (now (staging .exit)) (now (card .exit)) (now (text .exit)) (now (index .exit))) ≡ lastLine (standOf self (now (line .entry)) (buffersOf (now (memory .entry)) (now (staging .entry)) (now (card .entry)) (now (text .entry)) (now (index .entry)))) .stand ⌝ }
     {
         if le::front(line, self.held).len() < 1 {
             return self;
         }
-        let t = self.closed(line, memory, staging, card, text, out);
+        let t = self.closed(line, memory, staging, card, text, index, out);
         tell(out, t.wrote);
         let next = t.play;
         next
@@ -116,11 +120,12 @@ impl Play {
         staging: &mut Buffer,
         card: &mut Buffer,
         text: &mut Buffer,
+        index: &mut Index,
         out: &mut Buffer,
     ) -> Play
-        ensures { λ r. ⌜ standOf r (now (line .entry)) (buffersOf (now (memory .exit)) (now (staging .exit)) (now (card .exit)) (now (text .exit))) ≡ ended (standOf self (now (line .entry)) (buffersOf (now (memory .entry)) (now (staging .entry)) (now (card .entry)) (now (text .entry)))) .stand ⌝ }
+        ensures { λ r. ⌜ standOf r (now (line .entry)) (buffersOf (now (memory .exit)) (now (staging .exit)) (now (card .exit)) (now (text .exit)) (now (index .exit))) ≡ ended (standOf self (now (line .entry)) (buffersOf (now (memory .entry)) (now (staging .entry)) (now (card .entry)) (now (text .entry)) (now (index .entry)))) .stand ⌝ }
     {
-        let play = self.last(line, memory, staging, card, text, out);
+        let play = self.last(line, memory, staging, card, text, index, out);
         let n = play.finish(out);
         tell(out, n);
         play

@@ -8,6 +8,7 @@ use crate::Play;
 use crate::Turn;
 use libc::STDIN_FILENO;
 use script::Buffer;
+use session::Index;
 use session::Session;
 
 impl Play {
@@ -31,15 +32,16 @@ impl Play {
         staging: &mut Buffer,
         card: &mut Buffer,
         text: &mut Buffer,
+        index: &mut Index,
         out: &mut Buffer,
     ) -> Turn
-        ensures { λ r. ⌜ Read (standOf self (now (line .entry)) (buffersOf (now (memory .entry)) (now (staging .entry)) (now (card .entry)) (now (text .entry)))) (standOf (r .play) (now (line .exit)) (buffersOf (now (memory .exit)) (now (staging .exit)) (now (card .exit)) (now (text .exit)))) (r .last) ⌝ }
+        ensures { λ r. ⌜ Read (standOf self (now (line .entry)) (buffersOf (now (memory .entry)) (now (staging .entry)) (now (card .entry)) (now (text .entry)) (now (index .entry)))) (standOf (r .play) (now (line .exit)) (buffersOf (now (memory .exit)) (now (staging .exit)) (now (card .exit)) (now (text .exit)) (now (index .exit)))) (r .last) ⌝ }
     {
         let mut input = io::large_buffer();
         let got = libc::read(STDIN_FILENO, &mut input);
         let n = io::count(got, &input);
         let piece = le::front(&input, n);
-        let play = self.feed(piece, line, memory, staging, card, text, out);
+        let play = self.feed(piece, line, memory, staging, card, text, index, out);
         let session = play.session;
         Turn {
             play,
@@ -54,16 +56,17 @@ impl Play {
         staging: &mut Buffer,
         card: &mut Buffer,
         text: &mut Buffer,
+        index: &mut Index,
         out: &mut Buffer,
     ) -> Play
-        ensures { λ r. ⌜ ReadAll (standOf self (now (line .entry)) (buffersOf (now (memory .entry)) (now (staging .entry)) (now (card .entry)) (now (text .entry)))) (standOf r (now (line .exit)) (buffersOf (now (memory .exit)) (now (staging .exit)) (now (card .exit)) (now (text .exit)))) ⌝ }
+        ensures { λ r. ⌜ ReadAll (standOf self (now (line .entry)) (buffersOf (now (memory .entry)) (now (staging .entry)) (now (card .entry)) (now (text .entry)) (now (index .entry)))) (standOf r (now (line .exit)) (buffersOf (now (memory .exit)) (now (staging .exit)) (now (card .exit)) (now (text .exit)) (now (index .exit)))) ⌝ }
     {
         let mut play = self;
         // No input has so many pieces.
         let mut turns = u64::MAX;
         while turns > 0 {
             turns -= 1;
-            let t = play.more(line, memory, staging, card, text, out);
+            let t = play.more(line, memory, staging, card, text, index, out);
             let next = t.play;
             play = next;
             if t.last {
@@ -81,6 +84,7 @@ pub fn all(many: bool) {
     let mut staging = io::large_buffer();
     let mut card = io::large_buffer();
     let mut text = io::large_buffer();
+    let mut index: Index = [0; 481];
     let mut out = io::large_buffer();
     let play = Play::fresh(many);
     let last = play.through(
@@ -89,6 +93,7 @@ pub fn all(many: bool) {
         &mut staging,
         &mut card,
         &mut text,
+        &mut index,
         &mut out,
     );
     last.end(
@@ -97,6 +102,7 @@ pub fn all(many: bool) {
         &mut staging,
         &mut card,
         &mut text,
+        &mut index,
         &mut out,
     );
 }

@@ -67,24 +67,24 @@ openAfter l h m =
     }
 
 -- the answer is the length of the page, which lies at 8: 0 where the call was refused, so that no event is printed
-unfoldable pub nextAfter : Lent → Host → List ℕ → After
-nextAfter l h m =
+unfoldable pub nextAfter : Lent → List ℕ → Host → List ℕ → After
+nextAfter l table h m =
     record {
-      host = nextAnswer l h m 8 .host;
-      memory = nextMemory l h m 8;
+      host = nextAnswer l table h m 8 .host;
+      memory = nextMemory l table h m 8;
       staging = l .staging;
       card = l .card;
       said =
-          saidAnswer nextWord (nextAnswer l h m 8 .code) (nextAnswer l h m 8 .value)
-          ++ eventLines (part 8 (nextAnswer l h m 8 .value) (nextMemory l h m 8));
+          saidAnswer nextWord (nextAnswer l table h m 8 .code) (nextAnswer l table h m 8 .value)
+          ++ eventLines (part 8 (nextAnswer l table h m 8 .value) (nextMemory l table h m 8));
     }
 
-unfoldable pub returnAfter : Lent → Host → List ℕ → ℤ → After
-returnAfter l h m code =
+unfoldable pub returnAfter : Lent → List ℕ → Host → List ℕ → ℤ → After
+returnAfter l table h m code =
     record {
-      host = returnAnswer l h code .host;
+      host = returnAnswer l table h code .host;
       memory = m;
-      staging = returnStaging l h code;
-      card = returnCard l h code;
-      said = saidFate (returnAnswer l h code .fate);
+      staging = returnStaging l table h code;
+      card = returnCard l table h code;
+      said = saidFate (returnAnswer l table h code .fate);
     }

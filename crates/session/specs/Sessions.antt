@@ -15,7 +15,8 @@ use Rattle.weave.specs.Sums.{added}
 use Rattle.host.specs.declared.Host.{Host}
 use Rattle.host.specs.declared.Mounted.{Mounted}
 use Rattle.host.specs.Hosts.{Lent, lentAs, noHost}
-use Rattle.mounts.specs.Mount.{mounted}
+use Rattle.mounts.specs.Mount.{mounted, mountIndex}
+use Rattle.host.specs.Ending.{returnIndex}
 use Rattle.script.specs.Words.{goWord}
 use Rattle.script.specs.Forms.{codeOf, lineOf}
 use Rattle.script.specs.Laying.{writeLaid, openLaid, nextLaid}
@@ -27,15 +28,16 @@ use Rattle.session.specs.declared.Phase.{Phase}
 use Rattle.session.specs.declared.Phase.the-variants.{Listing, Overfull, Playing, Over}
 use Rattle.session.specs.declared.Session.{Session}
 
--- "All buffers are 65,536 bytes"; `text` holds the manifest
+-- "All buffers are 65,536 bytes"; `text` holds the manifest. The index is as long as a card of that length can need (02, A9)
 pub record Buffers : Type 0 where
   pub memory : List ℕ
   pub staging : List ℕ
   pub card : List ℕ
   pub text : List ℕ
+  pub index : List ℕ
 
-abbrev pub buffersOf : List ℕ → List ℕ → List ℕ → List ℕ → Buffers
-buffersOf memory′ staging′ card′ text′ = record { memory = memory′; staging = staging′; card = card′; text = text′ }
+abbrev pub buffersOf : List ℕ → List ℕ → List ℕ → List ℕ → List ℕ → Buffers
+buffersOf memory′ staging′ card′ text′ index′ = record { memory = memory′; staging = staging′; card = card′; text = text′; index = index′ }
 
 -- the session and the buffers after a line, and the bytes printed for it
 pub record Answered : Type 0 where
@@ -71,17 +73,18 @@ lentOf s b = lentAs (b .staging) (b .card) (take (s .size) (b .text))
 unfoldable pub badAnswer : Session → Buffers → Answered
 badAnswer s b = record { next = became s Over (s .size) (s .host); buffers = b; said = saidBad (counted s) }
 
--- a line's call, with what it left behind
-unfoldable pub called : Session → Buffers → After → Answered
-called s b a =
-    record { next = became s Playing (s .size) (a .host); buffers = buffersOf (a .memory) (a .staging) (a .card) (b .text); said = a .said }
+-- a line's call, with what it left behind, in the index too
+unfoldable pub called : Session → Buffers → After → List ℕ → Answered
+called s b a index′ =
+    record { next = became s Playing (s .size) (a .host); buffers = buffersOf (a .memory) (a .staging) (a .card) (b .text) index′; said = a .said }
 
 unfoldable pub played : Session → Buffers → List ℕ → Line → Answered
-played s b line (Begin units time) = called s b (beginAfter (lentOf s b) (s .host) (b .memory) units (time .0))
-played s b line Write = called s b (writeAfter (lentOf s b) (s .host) (writeLaid (b .memory) (field 1 line) (field 2 line)))
-played s b line (Open w) = called s b (openAfter (lentOf s b) (s .host) (openLaid (b .memory) (field 1 line) w))
-played s b line (Next handle cap) = called s b (nextAfter (lentOf s b) (s .host) (nextLaid (b .memory) handle cap))
-played s b line Return = called s b (returnAfter (lentOf s b) (s .host) (b .memory) (codeOf (field 1 line)))
+played s b line (Begin units time) = called s b (beginAfter (lentOf s b) (s .host) (b .memory) units (time .0)) (b .index)
+played s b line Write = called s b (writeAfter (lentOf s b) (s .host) (writeLaid (b .memory) (field 1 line) (field 2 line))) (b .index)
+played s b line (Open w) = called s b (openAfter (lentOf s b) (s .host) (openLaid (b .memory) (field 1 line) w)) (b .index)
+played s b line (Next handle cap) = called s b (nextAfter (lentOf s b) (b .index) (s .host) (nextLaid (b .memory) handle cap)) (b .index)
+played s b line Return =
+    called s b (returnAfter (lentOf s b) (b .index) (s .host) (b .memory) (codeOf (field 1 line))) (returnIndex (lentOf s b) (b .index) (s .host) (codeOf (field 1 line)))
 played s b line Bad = badAnswer s b
 
 -- a line that with its byte 10 is longer than a buffer has no form (R16)
@@ -100,13 +103,17 @@ mountAnswer s b m =
     (record { next = became s Playing (s .size) (m .host); buffers = b; said = [] })
     (record { next = became s Over (s .size) (s .host); buffers = b; said = saidMount (m .code) })
 
+-- the buffers after it: an empty card has no entry to set
+unfoldable pub withIndex : Buffers → List ℕ → Buffers
+withIndex b index′ = buffersOf (b .memory) (b .staging) (b .card) (b .text) index′
+
 -- one more line of the manifest, closed by byte 10 (R4): with that, "manifest at most 65,536" bytes. Of one that is longer the lines are only counted
 unfoldable pub manifestLine : Session → Buffers → List ℕ → Answered
 manifestLine s b line =
     cond (leb (s .size + length line) 65535)
     (record {
       next = became s Listing (s .size + length line + 1) (s .host);
-      buffers = buffersOf (b .memory) (b .staging) (b .card) (splice (b .text) (s .size) (line ++ (10 ∷ [])));
+      buffers = buffersOf (b .memory) (b .staging) (b .card) (splice (b .text) (s .size) (line ++ (10 ∷ []))) (b .index);
       said = [];
     })
     (record { next = became s Overfull (s .size) (s .host); buffers = b; said = [] })
@@ -121,7 +128,8 @@ refusedMount s b line =
 -- ---- a line
 
 unfoldable pub listing : Session → Buffers → List ℕ → Answered
-listing s b line = cond (isGo line) (mountAnswer s b (mounted (lentOf s b) 0)) (manifestLine s b line)
+listing s b line =
+    cond (isGo line) (mountAnswer s (withIndex b (mountIndex (lentOf s b) (b .index) 0)) (mounted (lentOf s b) (b .index) 0)) (manifestLine s b line)
 
 unfoldable pub inPhase : Phase → Session → Buffers → List ℕ → Answered
 inPhase Listing s b line = listing s b line

@@ -3,13 +3,15 @@ ghost use mathlib.Core.Path.{_≡_};
 ghost use Prim.Native.Nat.{_≤_};
 ghost use lib.ListN.{length};
 ghost use Rattle.host.specs.Hosts.{lentAs};
+ghost use Rattle.host.specs.Ending.{returnIndex};
 ghost use Rattle.text.specs.Lines.{field};
 ghost use Rattle.script.specs.Forms.{codeOf};
 ghost use Rattle.script.specs.Laying.{writeLaid, openLaid, nextLaid};
 ghost use Rattle.session.specs.Calls.{Does, beginAfter, writeAfter, openAfter, nextAfter, returnAfter};
-use crate::fates::say_fate;
 use host::Host;
 use record::VirtualTime;
+use crate::Index;
+use crate::fates::say_fate;
 use script::Buffer;
 use script::events::put_events;
 use script::forms::Window;
@@ -95,12 +97,13 @@ pub(crate) fn next(
     staging: &mut Buffer,
     card: &mut Buffer,
     text: &[u8],
+    index: &Index,
     out: &mut Buffer,
 ) -> Told
-    ensures { λ r. ⌜ Does (nextAfter (lentAs (now (staging .entry)) (now (card .entry)) (now (text .entry))) host (nextLaid (now (memory .entry)) handle cap)) (r .host) (now (memory .exit)) (now (staging .exit)) (now (card .exit)) (now (out .entry)) (now (out .exit)) (r .wrote) ⌝ }
+    ensures { λ r. ⌜ Does (nextAfter (lentAs (now (staging .entry)) (now (card .entry)) (now (text .entry))) (now (index .entry)) host (nextLaid (now (memory .entry)) handle cap)) (r .host) (now (memory .exit)) (now (staging .exit)) (now (card .exit)) (now (out .entry)) (now (out .exit)) (r .wrote) ⌝ }
 {
     lay_next(memory, handle, cap);
-    let a = reads::next::next(host, memory, staging, card, text, 8);
+    let a = reads::next::next(host, memory, staging, card, text, index, 8);
     let code = a.code;
     let next = a.host;
     let end = say_answer(out, b"next", code, a.value);
@@ -116,12 +119,14 @@ pub(crate) fn turn_over(
     staging: &mut Buffer,
     card: &mut Buffer,
     text: &[u8],
+    index: &mut Index,
     out: &mut Buffer,
 ) -> Told
-    ensures { λ r. ⌜ Does (returnAfter (lentAs (now (staging .entry)) (now (card .entry)) (now (text .entry))) host (now (memory .entry)) (codeOf (field 1 (now (line .entry))))) (r .host) (now (memory .exit)) (now (staging .exit)) (now (card .exit)) (now (out .entry)) (now (out .exit)) (r .wrote) ⌝ }
+    ensures does { λ r. ⌜ Does (returnAfter (lentAs (now (staging .entry)) (now (card .entry)) (now (text .entry))) (now (index .entry)) host (now (memory .entry)) (codeOf (field 1 (now (line .entry))))) (r .host) (now (memory .exit)) (now (staging .exit)) (now (card .exit)) (now (out .entry)) (now (out .exit)) (r .wrote) ⌝ }
+    ensures entries { λ _. ⌜ now (index .exit) ≡ returnIndex (lentAs (now (staging .entry)) (now (card .entry)) (now (text .entry))) (now (index .entry)) host (codeOf (field 1 (now (line .entry)))) ⌝ }
 {
     let code = code_of(field(line, 1));
-    let a = host.module_return(staging, card, text, code);
+    let a = host.module_return(staging, card, text, index, code);
     let fate = a.fate;
     let next = a.host;
     let wrote = say_fate(out, fate);

@@ -7,6 +7,9 @@ pub mod steps;
 
 use host::Host;
 
+// The table of offsets beside a card of 65,536 bytes: it has room for 65,536 / 136 records, the most that such a card can have.
+pub type Index = [u32; 481];
+
 // How far a session has come.
 pub enum Phase {
     Listing, // its manifest is being read

@@ -1,9 +1,10 @@
 // Up to `go`: the manifest, and the mount.
 ghost use mathlib.Core.Path.{_≡_};
 ghost use Rattle.script.specs.Saying.{Put, saidMount};
-ghost use Rattle.session.specs.Sessions.{Answers, buffersOf, became, mountAnswer, lentOf, manifestLine, refusedMount, listing};
+ghost use Rattle.session.specs.Sessions.{Answers, buffersOf, became, mountAnswer, withIndex, lentOf, manifestLine, refusedMount, listing};
 ghost use Rattle.session.specs.declared.Phase.the-variants.{Over};
-ghost use Rattle.mounts.specs.Mount.{mounted};
+ghost use Rattle.mounts.specs.Mount.{mounted, mountIndex};
+use crate::Index;
 use crate::Phase;
 use crate::Said;
 use crate::Session;
@@ -33,11 +34,12 @@ impl Session {
         staging: &mut Buffer,
         card: &mut Buffer,
         text: &mut Buffer,
+        index: &mut Index,
         out: &mut Buffer,
     ) -> Said
-        ensures { λ r. ⌜ Answers (mountAnswer self (buffersOf (now (memory .entry)) (now (staging .entry)) (now (card .entry)) (now (text .entry))) (mounted (lentOf self (buffersOf (now (memory .entry)) (now (staging .entry)) (now (card .entry)) (now (text .entry)))) 0)) (r .next) (buffersOf (now (memory .exit)) (now (staging .exit)) (now (card .exit)) (now (text .exit))) (now (out .entry)) (now (out .exit)) (r .wrote) ⌝ }
+        ensures { λ r. ⌜ Answers (mountAnswer self (withIndex (buffersOf (now (memory .entry)) (now (staging .entry)) (now (card .entry)) (now (text .entry)) (now (index .entry))) (mountIndex (lentOf self (buffersOf (now (memory .entry)) (now (staging .entry)) (now (card .entry)) (now (text .entry)) (now (index .entry)))) (now (index .entry)) 0)) (mounted (lentOf self (buffersOf (now (memory .entry)) (now (staging .entry)) (now (card .entry)) (now (text .entry)) (now (index .entry)))) (now (index .entry)) 0)) (r .next) (buffersOf (now (memory .exit)) (now (staging .exit)) (now (card .exit)) (now (text .exit)) (now (index .exit))) (now (out .entry)) (now (out .exit)) (r .wrote) ⌝ }
     {
-        let m = mounts::mount::mount(staging, card, le::front(text, self.size), 0);
+        let m = mounts::mount::mount(staging, card, le::front(text, self.size), index, 0);
         let code = m.code;
         if code.fine() {
             let host = m.host;
@@ -57,9 +59,10 @@ impl Session {
         staging: &mut Buffer,
         card: &mut Buffer,
         text: &mut Buffer,
+        index: &mut Index,
         out: &mut Buffer,
     ) -> Said
-        ensures { λ r. ⌜ Answers (manifestLine self (buffersOf (now (memory .entry)) (now (staging .entry)) (now (card .entry)) (now (text .entry))) (now (line .entry))) (r .next) (buffersOf (now (memory .exit)) (now (staging .exit)) (now (card .exit)) (now (text .exit))) (now (out .entry)) (now (out .exit)) (r .wrote) ⌝ }
+        ensures { λ r. ⌜ Answers (manifestLine self (buffersOf (now (memory .entry)) (now (staging .entry)) (now (card .entry)) (now (text .entry)) (now (index .entry))) (now (line .entry))) (r .next) (buffersOf (now (memory .exit)) (now (staging .exit)) (now (card .exit)) (now (text .exit)) (now (index .exit))) (now (out .entry)) (now (out .exit)) (r .wrote) ⌝ }
     {
         let host = self.host;
         let size = self.size;
@@ -85,14 +88,15 @@ impl Session {
         staging: &mut Buffer,
         card: &mut Buffer,
         text: &mut Buffer,
+        index: &mut Index,
         out: &mut Buffer,
     ) -> Said
-        ensures { λ r. ⌜ Answers (listing self (buffersOf (now (memory .entry)) (now (staging .entry)) (now (card .entry)) (now (text .entry))) (now (line .entry))) (r .next) (buffersOf (now (memory .exit)) (now (staging .exit)) (now (card .exit)) (now (text .exit))) (now (out .entry)) (now (out .exit)) (r .wrote) ⌝ }
+        ensures { λ r. ⌜ Answers (listing self (buffersOf (now (memory .entry)) (now (staging .entry)) (now (card .entry)) (now (text .entry)) (now (index .entry))) (now (line .entry))) (r .next) (buffersOf (now (memory .exit)) (now (staging .exit)) (now (card .exit)) (now (text .exit)) (now (index .exit))) (now (out .entry)) (now (out .exit)) (r .wrote) ⌝ }
     {
         if same(line, b"go") {
-            return self.mount(memory, staging, card, text, out);
+            return self.mount(memory, staging, card, text, index, out);
         }
-        self.manifest_line(line, memory, staging, card, text, out)
+        self.manifest_line(line, memory, staging, card, text, index, out)
     }
 
     // A manifest that is too long.
@@ -103,9 +107,10 @@ impl Session {
         staging: &mut Buffer,
         card: &mut Buffer,
         text: &mut Buffer,
+        index: &mut Index,
         out: &mut Buffer,
     ) -> Said
-        ensures { λ r. ⌜ Answers (refusedMount self (buffersOf (now (memory .entry)) (now (staging .entry)) (now (card .entry)) (now (text .entry))) (now (line .entry))) (r .next) (buffersOf (now (memory .exit)) (now (staging .exit)) (now (card .exit)) (now (text .exit))) (now (out .entry)) (now (out .exit)) (r .wrote) ⌝ }
+        ensures { λ r. ⌜ Answers (refusedMount self (buffersOf (now (memory .entry)) (now (staging .entry)) (now (card .entry)) (now (text .entry)) (now (index .entry))) (now (line .entry))) (r .next) (buffersOf (now (memory .exit)) (now (staging .exit)) (now (card .exit)) (now (text .exit)) (now (index .exit))) (now (out .entry)) (now (out .exit)) (r .wrote) ⌝ }
     {
         if same(line, b"go") {
             return self.refused(Code::Bad, out);

@@ -5,6 +5,7 @@ ghost use lib.ListN.{length};
 ghost use Rattle.script.specs.Saying.{Put, saidBad};
 ghost use Rattle.session.specs.Sessions.{Answers, buffersOf, became, counted, played, playing, answered, endIn, isOver};
 ghost use Rattle.session.specs.declared.Phase.the-variants.{Playing, Over};
+use crate::Index;
 use crate::Phase;
 use crate::Said;
 use crate::Session;
@@ -47,10 +48,11 @@ impl Session {
         staging: &mut Buffer,
         card: &mut Buffer,
         text: &mut Buffer,
+        index: &mut Index,
         out: &mut Buffer,
     ) -> Said
         requires { ⌜ length (now line) ≤ 65535 ⌝ }
-        ensures { λ r. ⌜ Answers (played self (buffersOf (now (memory .entry)) (now (staging .entry)) (now (card .entry)) (now (text .entry))) (now (line .entry)) l) (r .next) (buffersOf (now (memory .exit)) (now (staging .exit)) (now (card .exit)) (now (text .exit))) (now (out .entry)) (now (out .exit)) (r .wrote) ⌝ }
+        ensures { λ r. ⌜ Answers (played self (buffersOf (now (memory .entry)) (now (staging .entry)) (now (card .entry)) (now (text .entry)) (now (index .entry))) (now (line .entry)) l) (r .next) (buffersOf (now (memory .exit)) (now (staging .exit)) (now (card .exit)) (now (text .exit)) (now (index .exit))) (now (out .entry)) (now (out .exit)) (r .wrote) ⌝ }
     {
         let host = self.host;
         let lent = le::front(text, self.size);
@@ -70,7 +72,7 @@ impl Session {
                 out,
             )),
             Line::Next { handle, cap } => {
-                self.called(calls::next(host, handle, cap, memory, staging, card, lent, out))
+                self.called(calls::next(host, handle, cap, memory, staging, card, lent, index, out))
             }
             Line::Return => self.called(calls::turn_over(
                 host,
@@ -79,6 +81,7 @@ impl Session {
                 staging,
                 card,
                 lent,
+                index,
                 out,
             )),
             Line::Bad => self.bad(out),
@@ -93,14 +96,15 @@ impl Session {
         staging: &mut Buffer,
         card: &mut Buffer,
         text: &mut Buffer,
+        index: &mut Index,
         out: &mut Buffer,
     ) -> Said
-        ensures { λ r. ⌜ Answers (playing self (buffersOf (now (memory .entry)) (now (staging .entry)) (now (card .entry)) (now (text .entry))) (now (line .entry))) (r .next) (buffersOf (now (memory .exit)) (now (staging .exit)) (now (card .exit)) (now (text .exit))) (now (out .entry)) (now (out .exit)) (r .wrote) ⌝ }
+        ensures { λ r. ⌜ Answers (playing self (buffersOf (now (memory .entry)) (now (staging .entry)) (now (card .entry)) (now (text .entry)) (now (index .entry))) (now (line .entry))) (r .next) (buffersOf (now (memory .exit)) (now (staging .exit)) (now (card .exit)) (now (text .exit)) (now (index .exit))) (now (out .entry)) (now (out .exit)) (r .wrote) ⌝ }
     {
         if Line::LONGEST < line.len() {
             return self.bad(out);
         }
-        self.played(line, Line::read(line), memory, staging, card, text, out)
+        self.played(line, Line::read(line), memory, staging, card, text, index, out)
     }
 
     // A line, without its byte 10: what it says is put at the front of `out`.
@@ -111,15 +115,16 @@ impl Session {
         staging: &mut Buffer,
         card: &mut Buffer,
         text: &mut Buffer,
+        index: &mut Index,
         out: &mut Buffer,
     ) -> Said
-        ensures { λ r. ⌜ Answers (answered self (buffersOf (now (memory .entry)) (now (staging .entry)) (now (card .entry)) (now (text .entry))) (now (line .entry))) (r .next) (buffersOf (now (memory .exit)) (now (staging .exit)) (now (card .exit)) (now (text .exit))) (now (out .entry)) (now (out .exit)) (r .wrote) ⌝ }
+        ensures { λ r. ⌜ Answers (answered self (buffersOf (now (memory .entry)) (now (staging .entry)) (now (card .entry)) (now (text .entry)) (now (index .entry))) (now (line .entry))) (r .next) (buffersOf (now (memory .exit)) (now (staging .exit)) (now (card .exit)) (now (text .exit)) (now (index .exit))) (now (out .entry)) (now (out .exit)) (r .wrote) ⌝ }
     {
         let phase = self.phase;
         match phase {
-            Phase::Listing => self.listing(line, memory, staging, card, text, out),
-            Phase::Overfull => self.overfull(line, memory, staging, card, text, out),
-            Phase::Playing => self.playing(line, memory, staging, card, text, out),
+            Phase::Listing => self.listing(line, memory, staging, card, text, index, out),
+            Phase::Overfull => self.overfull(line, memory, staging, card, text, index, out),
+            Phase::Playing => self.playing(line, memory, staging, card, text, index, out),
             Phase::Over => Said {
                 wrote: 0,
                 next: self,

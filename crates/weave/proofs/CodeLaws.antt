@@ -56,6 +56,9 @@ fine-at = fine-by isFine Fine refl
 pub found-left : (f g : Finding) → isClear (firstFound f g) ≡ true → isClear f ≡ true
 found-left = left-by isClear
 
+pub found-right : (f g : Finding) → isClear (firstFound f g) ≡ true → isClear g ≡ true
+found-right = right-by isClear
+
 pub clear-at : (k : ℕ) (fs : List Finding) → isClear (found fs) ≡ true → isClear (getD fs k (plain Fine)) ≡ true
 clear-at = fine-by isClear (plain Fine) refl
 
