@@ -11,17 +11,18 @@ use Rattle.value.specs.declared.Fault.{Fault}
 use Rattle.value.specs.declared.Fault.the-variants.{Fine as NoFault, Outside, Unfit}
 use Rattle.card.specs.Pick.{All}
 use Rattle.card.specs.Listing.{pageOf}
+use Rattle.card.specs.Look.{pageBy}
 use Rattle.weave.specs.declared.Code.the-variants.{Bad}
 use Rattle.weave.specs.declared.Spoiled.{Spoiled}
 use Rattle.weave.specs.declared.Spoiled.the-variants.{Not, Overspent, Panicked}
 use Rattle.weave.specs.Codes.{isFine, need}
 use Rattle.weave.specs.Findings.{isClear}
-use Rattle.weave.specs.Args.{readArgs, nextArgs}
+use Rattle.weave.specs.Args.{readArgs}
 use Rattle.weave.proofs.CodeLaws.{need-test}
 use Rattle.host.specs.declared.Host.{Host}
 use Rattle.host.specs.Hosts.{Lent, lentCheck}
 use Rattle.writes.specs.Stage.{isPanic}
-use Rattle.reads.specs.Paging.{nextSound, nextList, nextPage}
+use Rattle.reads.specs.Paging.{nextFound, nextLook, pageFound, nextPage}
 use Rattle.reads.specs.Reading.{readSound, readList, readPage}
 use Rattle.promises.specs.Box.{World, Begin, Ingress, Write, Read, Open, Next, Close, step, isRefused}
 use Rattle.promises.specs.Checks.{Check, Passed, isOverspent, isPanicked, isOutside, isUnfit, lentAsked, gate, writeAsks, readAsks, openAsks, nextAsks, closeAsks}
@@ -57,6 +58,9 @@ module _ (w : World) where
 
   abbrev h : Host
   h = w .host
+
+  abbrev table : List ℕ
+  table = w .index
 
   lent-fine : Passed (lentAsked w) → isFine (lentCheck l h) ≡ true
   unfolding lentCheck need
@@ -142,15 +146,15 @@ module _ (w : World) where
       λ b. accepted-exactly w (Close m a) .1 (through (closeAsks w m a) (b .gated) (search le-leb)),
     )
 
-    -- a page: what is found once all is sound
-    pub next-page : isClear (nextSound l h m a) ≡ true → nextPage l h m a ≡ pageOf (nextArgs m a .out .len) (nextList l h (nextArgs m a .handle))
-    unfolding nextPage
+    -- a page: what is found once all before it is passed
+    pub next-page : isClear (nextFound l table h m a) ≡ true → nextPage l table h m a ≡ pageBy (nextLook l table h m a)
+    unfolding pageFound
     next-page s = rw s
 
-    pub next-exactly : (isRefused (step w (Next m a) .said) ≡ false) ↔ NextMay l h m a
+    pub next-exactly : (isRefused (step w (Next m a) .said) ≡ false) ↔ NextMay l table h m a
     next-exactly = (
-      λ e. let p = accepted-exactly w (Next m a) .0 e in let g = gated (nextAsks w m a) p in search leb-true,
-      λ b. accepted-exactly w (Next m a) .1 (through (nextAsks w m a) (b .gated) (search le-leb)),
+      λ e. let p = accepted-exactly w (Next m a) .0 e in let g = gated (nextAsks w m a) (p .1) in search (leb-true, not-true),
+      λ b. accepted-exactly w (Next m a) .1 (b .table-long, through (nextAsks w m a) (b .gated) (search (le-leb, not-yes))),
     )
 
     pub read-page : isClear (readSound l h m a) ≡ true → readPage l h m a ≡ pageOf (readArgs m a .out .len) (readList l h m a)

@@ -17,13 +17,13 @@ use Rattle.host.specs.Begin.{beginAnswer}
 use Rattle.writes.specs.Stage.{ingressAnswer, writeAnswer, isPanic, panicked, written}
 use Rattle.reads.specs.Reading.{readSound, readCheck, readAnswer}
 use Rattle.host.specs.Cursors.{openAnswer, closeAnswer, openNext, closeNext}
-use Rattle.reads.specs.Paging.{nextSound, nextCheck, nextAnswer, nextHost}
+use Rattle.reads.specs.Paging.{nextCheck, answerBy, nextAnswer, nextHost}
 use Rattle.promises.specs.Box.{World, Op, Begin, Ingress, Write, Read, Open, Next, Close, Return, LookUp, step, isRefused, Ended}
 use Rattle.promises.specs.Checks.{answers, tooLate}
 use Rattle.promises.specs.Diary.{answerOf}
 use Rattle.promises.proofs.AcceptedLaws.{settle-ok}
-use Rattle.promises.proofs.AcceptedHolds.{open-exactly, next-page, read-page}
-use Rattle.promises.proofs.RefusalHolds.{page-long}
+use Rattle.promises.proofs.AcceptedHolds.{open-exactly, read-page}
+use Rattle.promises.proofs.RefusalHolds.{page-long, look-bytes}
 use Rattle.promises.proofs.TidyHolds.{handle-new}
 use Rattle.weave.specs.States.{freshWeave, begunWeave, paid, holding, tabled, spoilt, turned}
 use Rattle.weave.specs.Moves.{openedWith, movedTo, closedAt}
@@ -42,7 +42,7 @@ page-bytes cap rs = sym (page-long 0 cap rs) ∙ length-shownFrom 0 (fit cap rs)
 
 -- THE PROMISE
 pub answers-are : (w : World) (o : Op) → isRefused (step w o .said) ≡ false → answerOf (step w o .said) ≡ answers w o
-unfolding step beginAnswer ingressAnswer writeAnswer readAnswer readCheck openAnswer nextAnswer nextCheck closeAnswer
+unfolding step beginAnswer ingressAnswer writeAnswer readAnswer readCheck openAnswer nextAnswer answerBy closeAnswer
 answers-are w (Begin args) e = value-is (w .host) _ 0 _ e
 answers-are w (Ingress topic payload) e = value-is (w .host) _ 0 _ e
 answers-are w (Write m a) e = value-is (w .host) _ 0 _ e
@@ -51,8 +51,8 @@ answers-are w (Read m a) e =
     ∙ rw (read-page w m a (found-left (readSound (w .lent) (w .host) m a) _ (settle-ok (w .host) (readCheck (w .lent) (w .host) m a) _ _ e))) (page-bytes _ _)
 answers-are w (Open m a) e = value-is (w .host) _ _ _ e ∙ handle-new (w .host .weave) (open-exactly w m a .0 e .room)
 answers-are w (Next m a) e =
-    value-is (w .host) (nextCheck (w .lent) (w .host) m a) _ _ e
-    ∙ rw (next-page w m a (found-left (nextSound (w .lent) (w .host) m a) _ (settle-ok (w .host) (nextCheck (w .lent) (w .host) m a) _ _ e))) (page-bytes _ _)
+    value-is (w .host) (nextCheck (w .lent) (w .index) (w .host) m a) _ _ e
+    ∙ look-bytes (w .lent) (w .index) (w .host) m a (settle-ok (w .host) (nextCheck (w .lent) (w .index) (w .host) m a) _ _ e)
 answers-are w (Close m a) e = value-is (w .host) _ 0 _ e
 answers-are w (Return code) e = refl
 answers-are w (LookUp id) e = refl
@@ -83,13 +83,13 @@ fate-late h (Committed events bytes) e r = absurd (true≢false (sym r))
 
 -- THE PROMISE
 pub late-is : (w : World) (o : Op) → isRefused (step w o .said) ≡ false → step w o .world .host .weave .running ≡ true → step w o .world .host .weave .late ≡ tooLate w o
-unfolding step beginAnswer ingressAnswer writeAnswer readAnswer openAnswer openNext nextAnswer nextHost closeAnswer closeNext returnAnswer withWeave begun begunWeave holding paid openedWith movedTo closedAt tabled
+unfolding step beginAnswer ingressAnswer writeAnswer readAnswer openAnswer openNext nextAnswer answerBy nextHost closeAnswer closeNext returnAnswer withWeave begun begunWeave holding paid openedWith movedTo closedAt tabled
 late-is w (Begin args) e r = late-of (w .host) _ 0 _ e
 late-is w (Ingress topic payload) e r = late-of (w .host) _ 0 _ e
 late-is w (Write m a) e r = late-of (w .host) _ 0 _ e ∙ written-late (w .host) (isPanic m a) _ _ _ _
 late-is w (Read m a) e r = late-of (w .host) (readCheck (w .lent) (w .host) m a) _ _ e
 late-is w (Open m a) e r = late-of (w .host) _ _ _ e
-late-is w (Next m a) e r = late-of (w .host) (nextCheck (w .lent) (w .host) m a) _ _ e
+late-is w (Next m a) e r = late-of (w .host) (nextCheck (w .lent) (w .index) (w .host) m a) _ _ e
 late-is w (Close m a) e r = late-of (w .host) _ 0 _ e
-late-is w (Return code) e r = fate-late (w .host) (fateOf (w .lent) (w .host) code) e r
+late-is w (Return code) e r = fate-late (w .host) (fateOf (w .lent) (w .index) (w .host) code) e r
 late-is w (LookUp id) e r = refl

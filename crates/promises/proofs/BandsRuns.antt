@@ -56,6 +56,7 @@ use Rattle.promises.proofs.StandingHolds.{ruled-stands}
 use Rattle.promises.proofs.CardHolds.{same-run}
 use Rattle.promises.proofs.AlikeHolds.{mounts-beside, exchanged-alike}
 use Rattle.promises.proofs.TwoBandsHold.{side-by-side}
+use Rattle.promises.proofs.IndexHolds.{mount-kept, life-kept}
 use Rattle.promises.proofs.RunLaws.{no-bytes}
 use Rattle.promises.proofs.NamingHolds.{called-exactly, kept-mounts}
 
@@ -118,18 +119,21 @@ module _ (n : ℕ) (least : 65536 ≤ n) (most : n ≤ 1048576) (payload : List 
   abbrev l : Lent
   l = lentWith n payload
 
+  abbrev table : List ℕ
+  table = zeros 3
+
   abbrev used′ : ℕ
   used′ = length (cardWith payload)
 
   staging-long : length (zeros n) ≡ n
   staging-long = length-replicate {0} {A = ℕ} n 0
 
-  fine : mounted l used′ .code ≡ Fine
+  fine : mounted l table used′ .code ≡ Fine
   unfolding sameBytes panicTopic
   fine =
       let is = a-is payload short in
-      kept-mounts (zeros n) bands (takeA payload) (record { id = record { 0 = 2 }; flags = 1; time = record { 0 = 0 }; agent = 2 }) (zeros 32) (98 ∷ []) []
-      (omega (arith, staging-long)) (omega (arith, staging-long)) (says .good)
+      kept-mounts (zeros n) bands table (takeA payload) (record { id = record { 0 = 2 }; flags = 1; time = record { 0 = 0 }; agent = 2 }) (zeros 32) (98 ∷ []) []
+      (omega (arith, staging-long)) (omega (arith, staging-long)) (says .good) (omega arith)
       (record {
         sound = rw (is .one) (omega arith);
         number = rw (is .one);
@@ -148,11 +152,11 @@ module _ (n : ℕ) (least : 65536 ≤ n) (most : n ≤ 1048576) (payload : List 
   -- ---- begin, ingress, return
 
   abbrev w₀ : World
-  w₀ = mountedAs l used′
+  w₀ = mountedAs l table used′
 
   e₀ : isRefused (step w₀ (Begin hundred) .said) ≡ false
   unfolding freshWeave
-  e₀ = begin-exactly w₀ hundred .1 (record { check-1 = life-sane l used′ [] tt fine; idle = rw (mount-fresh l used′); healthy = mount-healthy l used′; long = refl })
+  e₀ = begin-exactly w₀ hundred .1 (record { check-1 = life-sane l table used′ [] tt fine; idle = rw (mount-fresh l table used′); healthy = mount-healthy l table used′; long = refl })
 
   abbrev w₁ : World
   w₁ = step w₀ (Begin hundred) .world
@@ -165,14 +169,14 @@ module _ (n : ℕ) (least : 65536 ≤ n) (most : n ≤ 1048576) (payload : List 
   runs = rw begun
 
   two-events : w₀ .host .next .0 ≡ 3
-  two-events = mounts l used′ .fresh fine .next ∙ rw on-card
+  two-events = mounts l table used′ .fresh fine .next ∙ rw on-card
 
   e₁ : isRefused (step w₁ (Ingress (98 ∷ []) []) .said) ≡ false
   unfolding withWeave roomFine
   e₁ =
       ingress-exactly w₁ (98 ∷ []) [] .1
       (record {
-        check-1 = life-sane l used′ (Begin hundred ∷ []) (no-bytes, tt) fine;
+        check-1 = life-sane l table used′ (Begin hundred ∷ []) (no-bytes, tt) fine;
         running = runs;
         early = rw begun;
         topic-good = says .topic;
@@ -183,7 +187,7 @@ module _ (n : ℕ) (least : 65536 ≤ n) (most : n ≤ 1048576) (payload : List 
   w₂ = step w₁ (Ingress (98 ∷ []) []) .world
 
   stands : Stands w₂ (started atMount)
-  stands = rw (e₀, e₁) at (ruled-stands (chargeOf bands) l used′ (Begin hundred ∷ Ingress (98 ∷ []) [] ∷ []))
+  stands = rw (e₀, e₁) at (ruled-stands (chargeOf bands) l table used′ (Begin hundred ∷ Ingress (98 ∷ []) [] ∷ []))
 
   first-turn : w₂ .host .weave .turn ≡ 1
   unfolding step
@@ -197,7 +201,7 @@ module _ (n : ℕ) (least : 65536 ≤ n) (most : n ≤ 1048576) (payload : List 
   e₂ =
       running-exactly w₂ (pos 0) .1 (
         record {
-          returns = record { check-1 = life-sane l used′ (Begin hundred ∷ Ingress (98 ∷ []) [] ∷ []) (no-bytes, (no-bytes, tt)) fine; running = stands .running };
+          returns = record { table-long = life-kept (chargeOf bands) l table used′ fine (Begin hundred ∷ Ingress (98 ∷ []) [] ∷ []) .long; check-1 = life-sane l table used′ (Begin hundred ∷ Ingress (98 ∷ []) [] ∷ []) (no-bytes, (no-bytes, tt)) fine; running = stands .running };
           unspoiled = stands .mark;
           zero-or-one = inl refl;
         },
@@ -215,7 +219,7 @@ module _ (n : ℕ) (least : 65536 ≤ n) (most : n ≤ 1048576) (payload : List 
   bands-turn = record {
     running = rw (turn-passes w₂ (pos 0) e₂) (stands .running);
     turn = rw (turn-passes w₂ (pos 0) e₂, first-turn);
-    card = rw (kept .card, kept .used, mounts l used′ .fresh fine .used) on-card;
+    card = rw (kept .card, kept .used, mounts l table used′ .fresh fine .used) on-card;
     own = rw (kept .text, b-is .topic) (says .own);
     other = rw (kept .text, a-is payload short .topic) (says .hidden);
   }
@@ -237,19 +241,19 @@ module _ (n : ℕ) (least : 65536 ≤ n) (most : n ≤ 1048576) (p q : List ℕ)
   used″ = length (cardWith p)
 
   abbrev v₁ : World
-  v₁ = mountedAs (lentWith n p) used″
+  v₁ = mountedAs (lentWith n p) (zeros 3) used″
 
   abbrev v₂ : World
-  v₂ = mountedAs (lentWith n q) used″
+  v₂ = mountedAs (lentWith n q) (zeros 3) used″
 
-  fine′ : mounted (lentWith n q) used″ .code ≡ Fine
+  fine′ : mounted (lentWith n q) (zeros 3) used″ .code ≡ Fine
   fine′ = rw (← card-same) (fine n least most q short′)
 
   on-card′ : recordsOn (cardWith q) used″ ≡ takeA q ∷ takeB ∷ []
   on-card′ = rw (← card-same) (on-card n least most q short′)
 
   beside : Beside v₁ v₂
-  beside = mounts-beside (zeros n) bands (cardWith p) (cardWith q) used″ (sym card-same) (fine n least most p short) fine′ (rw (on-card n least most p short, on-card′))
+  beside = mounts-beside (zeros n) bands (cardWith p) (cardWith q) (zeros 3) (zeros 3) used″ (sym card-same) refl (fine n least most p short) fine′ (rw (on-card n least most p short, on-card′))
 
   none-sound : chainTo [] 1 1 ≡ true
   unfolding records upTo
@@ -268,12 +272,15 @@ module _ (n : ℕ) (least : 65536 ≤ n) (most : n ≤ 1048576) (p q : List ℕ)
     rest = [];
     card₁ = sym (append-nil (cardWith p));
     card₂ = sym (append-nil (cardWith q));
-    used = mounts (lentWith n p) used″ .fresh (fine n least most p short) .used;
+    used = mounts (lentWith n p) (zeros 3) used″ .fresh (fine n least most p short) .used;
     long = take-same;
     front-sound = none-sound;
     was-sound = a-is p short .sound;
     is-sound = a-is q short′ .sound;
     back-sound = rw (two-events n least most p short) (b-is .sound);
+    small = mount-kept (chargeOf bands) (lentWith n p) (zeros 3) used″ (fine n least most p short) .indexed .small;
+    fits₁ = mount-kept (chargeOf bands) (lentWith n p) (zeros 3) used″ (fine n least most p short) .indexed .fits;
+    fits₂ = mount-kept (chargeOf bands) (lentWith n q) (zeros 3) used″ fine′ .indexed .fits;
     was-hidden = rw (a-is p short .one, a-is p short .topic) (says .hidden, tt);
     is-hidden = rw (a-is q short′ .one, a-is q short′ .topic) (says .hidden, tt);
   }

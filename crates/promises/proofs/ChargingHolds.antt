@@ -114,9 +114,9 @@ run-rule : (w : World) (os : List Op) → run w os .charge ≡ w .charge
 run-rule w [] = refl
 run-rule w (o ∷ os) = run-rule (step w o .world) os ∙ rw (moved w o .world) (rule-kept w o (moved w o .move))
 
-pub life-rule : (l : Lent) (used : ℕ) (os : List Op) (m : Made (l .text)) → run (mountedAs l used) os .charge ≡ chargeBy (edition (m .choice))
+pub life-rule : (l : Lent) (table : List ℕ) (used : ℕ) (os : List Op) (m : Made (l .text)) → run (mountedAs l table used) os .charge ≡ chargeBy (edition (m .choice))
 unfolding chargeOf
-life-rule l used os m = run-rule (mountedAs l used) os ∙ ap (λ (s : Said). chargeBy (chargeSaid s)) (says-so (l .text) m)
+life-rule l table used os m = run-rule (mountedAs l table used) os ∙ ap (λ (s : Said). chargeBy (chargeSaid s)) (says-so (l .text) m)
 
 -- ---- the two editions
 

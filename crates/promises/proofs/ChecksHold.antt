@@ -6,14 +6,17 @@ use mathlib.Core.List.{List, [], _∷_, _++_}
 use mathlib.Core.Logic.{_↔_}
 use Prim.Native.Nat.{ℕ, _+_}
 use borrow.Author.Tests.{not-false}
-use lib.Dec.{leb}
+use lib.Dec.{leb, eqb}
 use lib.IntN.{ℤ}
 use lib.ListN.{length}
 use Rattle.value.specs.declared.Fault.{Fault}
 use Rattle.value.specs.declared.Fault.the-variants.{Fine as NoFault, Outside, Unfit}
 use Rattle.card.specs.Pick.{All}
 use Rattle.card.specs.declared.Page.{Page}
-use Rattle.card.specs.declared.Page.the-variants.{End, Short, Bytes}
+use Rattle.card.specs.declared.Page.the-variants.{End, Short, Bytes, Fault as Faulty}
+use Rattle.card.specs.Records.{size}
+use Rattle.card.specs.Listing.{fit, pageOf}
+use Rattle.card.specs.Look.{Stop, AtEnd, Full, AtFault, Look, endOf, shortOf, pageAt, pageAfter, pageBy, isFault}
 use Rattle.weave.specs.declared.Code.{Code}
 use Rattle.weave.specs.declared.Code.the-variants.{Fine, Denied, NotNow, Unsound, NoRoom, Bad, Budget, BadValue}
 use Rattle.weave.specs.declared.Finding.{Finding}
@@ -21,21 +24,21 @@ use Rattle.weave.specs.declared.Spoiled.{Spoiled}
 use Rattle.weave.specs.declared.Spoiled.the-variants.{Not, Overspent, Panicked}
 use Rattle.weave.specs.Codes.{isFine, need, firstBy, reasonFor}
 use Rattle.weave.specs.Findings.{plain, beforeRecord, isClear, firstFound}
-use Rattle.weave.specs.Args.{writeArgs}
+use Rattle.weave.specs.Args.{writeArgs, readArgs}
 use Rattle.weave.specs.Checks.{runningCheck, budgetCheck}
 use Rattle.takes.specs.Pages.{pageCode, pageCheck}
 use Rattle.takes.specs.Payloads.{payloadChecked, faultCode}
 use Rattle.host.specs.declared.Host.{Host}
 use Rattle.host.specs.declared.Answer.{Answer}
-use Rattle.host.specs.Hosts.{Lent, lentCheck, gateCheck, gateFound, turnedAway, settle}
+use Rattle.host.specs.Hosts.{Lent, lentCheck, indexedCheck, gateCheck, gateFound, turnedAway, settle}
 use Rattle.host.specs.Begin.{beginCheck, beginAnswer}
 use Rattle.writes.specs.Stage.{roomFine, writeCharge, ingressChecks, ingressCheck, ingressAnswer, isPanic, dataLen, stageCheck, writeChecks, writeCheck, writeAnswer}
-use Rattle.reads.specs.Reading.{readChecks, readSound, readPage, readCheck, readAnswer}
+use Rattle.reads.specs.Reading.{readChecks, readSound, readList, readPage, readCheck, readAnswer}
 use Rattle.host.specs.Cursors.{openCheck, openAnswer, closeCheck, closeAnswer}
-use Rattle.reads.specs.Paging.{nextChecks, nextSound, nextPage, nextCheck, nextAnswer}
+use Rattle.reads.specs.Paging.{nextChecks, nextFound, nextLook, pageFound, checkBy, nextCheck, answerBy, nextAnswer}
 use Rattle.host.specs.Ending.{returnCheck, returnAnswer}
 use Rattle.promises.specs.Box.{World, Op, Begin, Ingress, Write, Read, Open, Next, Close, Return, LookUp, answered, step, isRefused, codeOf}
-use Rattle.promises.specs.Checks.{Check, Passed, isOverspent, isPanicked, isOutside, isUnfit, check, checkAt, failing, failingField, lentAsked, gate, paged, writeAsks, readFirst, openAsks, nextFirst, closeAsks, checksOf}
+use Rattle.promises.specs.Checks.{Check, Passed, isOverspent, isPanicked, isOutside, isUnfit, check, checkAt, failing, failingField, lentAsked, indexAsks, gate, paged, writeAsks, readFirst, openAsks, nextFirst, closeAsks, checksOf}
 use Rattle.promises.proofs.CheckLaws.{proper, none-of, all-passed, Comes, joined, last, then, Finds, finds-code, finds-field, followed, plainly, named, field-then, plain-last, plain-then}
 use Rattle.promises.proofs.OutcomeHolds.{Fated, turned-away, has-reason, turns-on, ends-badly, ends-well, fated}
 
@@ -70,10 +73,41 @@ fault-code NoFault = record { is = refl }
 fault-code Outside = record { is = refl }
 fault-code Unfit = record { is = refl }
 
-page-code : (p : Page) → Comes (pageCode p) (check (isFine (pageCode p)) NoRoom ∷ [])
+-- a page that no record stands on which is not sound
+abbrev faulty : Page → Bool
+faulty End = false
+faulty Short = false
+faulty (Bytes n) = false
+faulty Faulty = true
+
+page-code : (p : Page) → Comes (pageCode p) (check (not (faulty p)) Unsound ∷ check (isFine (pageCode p)) NoRoom ∷ [])
 page-code End = record { is = refl }
 page-code Short = record { is = refl }
 page-code (Bytes n) = record { is = refl }
+page-code Faulty = record { is = refl }
+
+-- a list has no such record
+list-code : (cap : ℕ) (l : List (List ℕ)) → Comes (pageCode (pageOf cap l)) (check (isFine (pageCode (pageOf cap l))) NoRoom ∷ [])
+unfolding pageOf
+list-code cap [] = record { is = refl }
+list-code cap (r ∷ t) = go (leb (length r) cap)
+  where
+    go : (b : Bool) → Comes (pageCode (cond b (Bytes (size (fit cap (r ∷ t)))) Short)) (check (isFine (pageCode (cond b (Bytes (size (fit cap (r ∷ t)))) Short))) NoRoom ∷ [])
+    go true = record { is = refl }
+    go false = record { is = refl }
+
+look-fault : (k : Look) → faulty (pageBy k) ≡ isFault (k .stop)
+unfolding pageAfter endOf shortOf
+look-fault k = go (k .stop) (0 + size (k .part))
+  where
+    some : (b : Bool) (p : Page) (n : ℕ) → faulty p ≡ false → faulty (cond b p (Bytes n)) ≡ false
+    some true p n e = e
+    some false p n e = refl
+
+    go : (e : Stop) (n : ℕ) → faulty (pageAt e n) ≡ isFault e
+    go AtEnd n = some (eqb n 0) End n refl
+    go Full n = some (eqb n 0) Short n refl
+    go AtFault n = refl
 
 two : (a b : Bool) (c : Code) → Comes (need (a && b) c) (check a c ∷ check b c ∷ [])
 unfolding need
@@ -92,6 +126,9 @@ module _ (w : World) where
 
   abbrev h : Host
   h = w .host
+
+  abbrev table : List ℕ
+  table = w .index
 
   begin-code : (args : List ℕ) → Comes (beginCheck l h args) (checksOf w (Begin args))
   unfolding beginCheck lentCheck
@@ -136,31 +173,38 @@ module _ (w : World) where
     close-finds = gated _ (closeAsks w m a) (field-then _ 255 _ _ (plain-then _ NotNow _ _ refl (plain-last _ Budget)))
 
     -- a page is looked for when all before it is passed
-    page-codes : (p : Page) → Comes (pageCheck (h .weave) p) (paged w p)
-    unfolding budgetCheck
-    page-codes p = joined (check (isFine (pageCode p)) NoRoom ∷ []) _ _ _ refl (page-code p) (last _ Budget)
+    looked-for : (f : Finding) (cs ds : List Check) (p : Page) → proper cs ≡ true → Finds f cs → Finds (plain (pageCheck (h .weave) p)) ds
+        → Finds (firstFound f (plain (pageCheck (h .weave) (cond (isClear f) p End)))) (cs ++ ds)
+    looked-for f cs ds p r e g = record { is = under f (λ (q : Page). plain (pageCheck (h .weave) q)) p ∙ followed cs ds f _ r e g .is }
 
-    looked-for : (f : Finding) (cs : List Check) (p : Page) → proper cs ≡ true → Finds f cs
-        → Finds (firstFound f (plain (pageCheck (h .weave) (cond (isClear f) p End)))) (cs ++ paged w p)
-    looked-for f cs p r e = record {
-      is = under f (λ (q : Page). plain (pageCheck (h .weave) q)) p ∙ followed cs (paged w p) f _ r e (plainly _ (paged w p) (page-codes p) refl) .is;
-    }
+    list-finds : (cap : ℕ) (rs : List (List ℕ)) → Finds (plain (pageCheck (h .weave) (pageOf cap rs))) (paged w (pageOf cap rs))
+    unfolding budgetCheck
+    list-finds cap rs = plainly _ (paged w (pageOf cap rs)) (joined (check (isFine (pageCode (pageOf cap rs))) NoRoom ∷ []) _ _ _ refl (list-code cap rs) (last _ Budget)) refl
+
+    look-finds : (k : Look) → Finds (plain (pageCheck (h .weave) (pageBy k))) (check (not (isFault (k .stop))) Unsound ∷ paged w (pageBy k))
+    unfolding budgetCheck
+    look-finds k =
+        rw (look-fault k) at
+        (plainly _ (check (not (faulty (pageBy k))) Unsound ∷ paged w (pageBy k))
+        (joined (check (not (faulty (pageBy k))) Unsound ∷ check (isFine (pageCode (pageBy k))) NoRoom ∷ []) _ _ _ refl (page-code (pageBy k)) (last _ Budget)) refl)
 
     pub read-finds : Finds (readCheck l h m a) (checksOf w (Read m a))
     unfolding readCheck readPage readChecks
     read-finds =
-        looked-for (readSound l h m a) (gate w m ++ readFirst w m a) _ refl
+        looked-for (readSound l h m a) (gate w m ++ readFirst w m a) _ (pageOf (readArgs m a .out .len) (readList l h m a)) refl
         (gated _ (readFirst w m a) (field-then _ 255 _ _ (field-then _ 0 _ _ (field-then _ 24 _ _ (plain-then _ Denied _ _ refl (plain-last _ Unsound))))))
+        (list-finds (readArgs m a .out .len) (readList l h m a))
 
-    pub next-finds : Finds (nextCheck l h m a) (checksOf w (Next m a))
-    unfolding nextCheck nextPage nextChecks
+    pub next-finds : Finds (nextCheck l table h m a) (checksOf w (Next m a))
+    unfolding checkBy pageFound nextChecks
     next-finds =
-        looked-for (nextSound l h m a) (gate w m ++ nextFirst w m a) _ refl
-        (gated _ (nextFirst w m a) (field-then _ 255 _ _ (field-then _ 8 _ _ (plain-then _ NotNow _ _ refl (plain-last _ Unsound)))))
+        looked-for (nextFound l table h m a) (checkAt (indexAsks w) 254 ∷ (gate w m ++ nextFirst w m a)) _ (pageBy (nextLook l table h m a)) refl
+        (field-then _ 254 _ _ (gated _ (nextFirst w m a) (field-then _ 255 _ _ (field-then _ 8 _ _ (plain-last _ NotNow)))))
+        (look-finds (nextLook l table h m a))
 
-  pub return-code : Comes (returnCheck l h) (lentAsked w ∷ check (h .weave .running) NotNow ∷ [])
-  unfolding returnCheck lentCheck
-  return-code = then _ Bad _ _ refl (last _ NotNow)
+  pub return-code : Comes (returnCheck l table h) (check (indexAsks w) Bad ∷ lentAsked w ∷ check (h .weave .running) NotNow ∷ [])
+  unfolding returnCheck indexedCheck lentCheck
+  return-code = joined (check (indexAsks w) Bad ∷ lentAsked w ∷ []) _ _ _ refl (then _ Bad _ _ refl (last _ Bad)) (last _ NotNow)
 
 -- ---- what is said
 
@@ -196,18 +240,18 @@ settled-judged w o f v next staging′ memory′ is p e = record {
   coded = p;
 }
 
-fate-judged : (w : World) (code : ℤ) → Fated (w .lent) (w .host) code → Judged w (Return code)
+fate-judged : (w : World) (code : ℤ) → Fated (w .lent) (w .index) (w .host) code → Judged w (Return code)
 unfolding step returnAnswer
 fate-judged w code f = record { code = said f; field = finds-field _ _ (plainly _ _ (return-code w) refl); refusal = refused f; coded = refl }
   where
-    said : Fated (w .lent) (w .host) code → codeOf (step w (Return code) .said) ≡ failing (checksOf w (Return code))
+    said : Fated (w .lent) (w .index) (w .host) code → codeOf (step w (Return code) .said) ≡ failing (checksOf w (Return code))
     said (turned-away a q) = rw q (return-code w .is)
     said (has-reason a b q) = rw q (sym (fine-is _ a) ∙ return-code w .is)
     said (turns-on a b c q) = rw q (sym (fine-is _ a) ∙ return-code w .is)
     said (ends-badly a b c d q) = rw q (sym (fine-is _ a) ∙ return-code w .is)
     said (ends-well a b c d q) = rw q (sym (fine-is _ a) ∙ return-code w .is)
 
-    refused : Fated (w .lent) (w .host) code → isRefused (step w (Return code) .said) ≡ not (isFine (codeOf (step w (Return code) .said)))
+    refused : Fated (w .lent) (w .index) (w .host) code → isRefused (step w (Return code) .said) ≡ not (isFine (codeOf (step w (Return code) .said)))
     refused (turned-away a q) = rw (q, a)
     refused (has-reason a b q) = rw q
     refused (turns-on a b c q) = rw q
@@ -215,7 +259,7 @@ fate-judged w code f = record { code = said f; field = finds-field _ _ (plainly 
     refused (ends-well a b c d q) = rw q
 
 judged : (w : World) (o : Op) → Judged w o
-unfolding step beginAnswer ingressAnswer writeAnswer readAnswer openAnswer nextAnswer closeAnswer
+unfolding step beginAnswer ingressAnswer writeAnswer readAnswer openAnswer nextAnswer answerBy closeAnswer
 judged w (Begin args) = settled-judged w (Begin args) _ _ _ _ _ refl refl (begin-finds w args)
 judged w (Ingress topic payload) = settled-judged w (Ingress topic payload) _ _ _ _ _ refl refl (ingress-finds w topic payload)
 judged w (Write m a) = settled-judged w (Write m a) _ _ _ _ _ refl refl (write-finds w m a)
@@ -223,7 +267,7 @@ judged w (Read m a) = settled-judged w (Read m a) _ _ _ _ _ refl refl (read-find
 judged w (Open m a) = settled-judged w (Open m a) _ _ _ _ _ refl refl (open-finds w m a)
 judged w (Next m a) = settled-judged w (Next m a) _ _ _ _ _ refl refl (next-finds w m a)
 judged w (Close m a) = settled-judged w (Close m a) _ _ _ _ _ refl refl (close-finds w m a)
-judged w (Return code) = fate-judged w code (fated (w .lent) (w .host) code)
+judged w (Return code) = fate-judged w code (fated (w .lent) (w .index) (w .host) code)
 judged w (LookUp id) = record { code = refl; field = refl; refusal = refl; coded = refl }
 
 -- THE PROMISE: the code is that of the first check that fails, and so is the field

@@ -56,32 +56,35 @@ good-letter : goodTopic (116 ∷ []) ≡ true
 unfolding goodText utf8 utf8From after noControl
 good-letter = refl
 
-module _ (n c : ℕ) (n-least : 65536 ≤ n) (n-most : n ≤ 1048576) (c-least : 136 ≤ c) (c-most : c ≤ 16777216) where
+module _ (n c t : ℕ) (n-least : 65536 ≤ n) (n-most : n ≤ 1048576) (c-least : 136 ≤ c) (c-most : c ≤ 16777216) (t-least : 1 ≤ t) where
   abbrev l : Lent
   l = lentAs (zeros n) (zeros c) oneModule
 
-  fine : mounted l 0 .code ≡ Fine
-  fine = mount-ok n c oneModule n-least n-most c-most said-good
+  abbrev table : List ℕ
+  table = zeros t
+
+  fine : mounted l table 0 .code ≡ Fine
+  fine = mount-ok n c t oneModule n-least n-most c-most said-good
 
   abbrev w₀ : World
-  w₀ = emptyBox n c oneModule
+  w₀ = emptyBox n c t oneModule
 
-  at₀ : At l [] w₀ (firstPage l 0)
-  at₀ = at-first n c oneModule n-least n-most c-most said-good
+  at₀ : At l table [] w₀ (firstPage l 0)
+  at₀ = at-first n c t oneModule n-least n-most c-most said-good
 
   e₀ : isRefused (step w₀ (Begin (zeros 128)) .said) ≡ false
   unfolding freshHost freshWeave
   e₀ = begin-exactly w₀ (zeros 128) .1 (record { check-1 = at₀ .check-1; idle = refl; healthy = refl; long = refl })
 
   abbrev w₁ : World
-  w₁ = boxOf (withWeave (w₀ .host) (begun (zeros 128))) (lentAs (zeros (length (zeros n))) (zeros c) oneModule)
+  w₁ = boxOf (withWeave (w₀ .host) (begun (zeros 128))) (lentAs (zeros (length (zeros n))) (zeros c) oneModule) table
 
   q₀ : step w₀ (Begin (zeros 128)) .world ≡ w₁
   unfolding step beginAnswer beginStaging settle
   q₀ = rw (settle-ok (w₀ .host) (plain (beginCheck (w₀ .lent) (w₀ .host) (zeros 128))) 0 _ e₀)
 
-  at₁ : At l (Begin (zeros 128) ∷ []) w₁ (firstPage l 0)
-  at₁ = one-more l fine [] w₀ (firstPage l 0) at₀ (Begin (zeros 128)) no-bytes e₀ w₁ q₀
+  at₁ : At l table (Begin (zeros 128) ∷ []) w₁ (firstPage l 0)
+  at₁ = one-more l table fine [] w₀ (firstPage l 0) at₀ (Begin (zeros 128)) no-bytes e₀ w₁ q₀
 
   staging-long : length (w₁ .lent .staging) ≡ n
   staging-long = long (length (zeros n)) ∙ long n
@@ -96,7 +99,7 @@ module _ (n c : ℕ) (n-least : 65536 ≤ n) (n-most : n ≤ 1048576) (c-least :
   abbrev w₂ : World
   w₂ =
       boxOf (withWeave (w₁ .host) (holding (w₁ .host .weave) 136 (length (w₁ .lent .staging))))
-      (lentAs (ingressStaging (w₁ .lent) (w₁ .host) (116 ∷ []) []) (zeros c) oneModule)
+      (lentAs (ingressStaging (w₁ .lent) (w₁ .host) (116 ∷ []) []) (zeros c) oneModule) table
 
   q₁ : step w₁ (Ingress (116 ∷ []) []) .world ≡ w₂
   unfolding step ingressAnswer settle
@@ -105,8 +108,8 @@ module _ (n c : ℕ) (n-least : 65536 ≤ n) (n-most : n ≤ 1048576) (c-least :
   abbrev ops : List Op
   ops = Begin (zeros 128) ∷ Ingress (116 ∷ []) [] ∷ []
 
-  at₂ : At l ops w₂ (held (firstPage l 0) (ingressRecord w₁ (116 ∷ []) []))
-  at₂ = one-more l fine (Begin (zeros 128) ∷ []) w₁ (firstPage l 0) at₁ (Ingress (116 ∷ []) []) no-bytes e₁ w₂ q₁
+  at₂ : At l table ops w₂ (held (firstPage l 0) (ingressRecord w₁ (116 ∷ []) []))
+  at₂ = one-more l table fine (Begin (zeros 128) ∷ []) w₁ (firstPage l 0) at₁ (Ingress (116 ∷ []) []) no-bytes e₁ w₂ q₁
 
   staged-136 : w₂ .host .weave .staged ≡ 136
   unfolding withWeave holding begun begunWeave
@@ -116,9 +119,10 @@ module _ (n c : ℕ) (n-least : 65536 ≤ n) (n-most : n ≤ 1048576) (c-least :
   unfolding withWeave holding begun begunWeave added
   count-1 = refl
 
-  meets : Conditions (w₂ .lent) (w₂ .host) (pos 0)
+  meets : Conditions (w₂ .lent) (w₂ .index) (w₂ .host) (pos 0)
   unfolding withWeave holding begun begunWeave freshHost
   meets = record {
+    table-long = at₂ .kept .long;
     check-1 = at₂ .check-1;
     running = refl;
     unspoiled = refl;
@@ -126,8 +130,9 @@ module _ (n c : ℕ) (n-least : 65536 ≤ n) (n-most : n ≤ 1048576) (c-least :
     last = sym said-one;
     sound = at₂ .agrees .carried;
     fits = omega (arith, staged-136, long c);
+    entries = omega (arith, count-1, long t);
   }
 
   -- committed: one event, 136 bytes
-  pub commits-one : step (run (mountedAs l 0) ops) (Return (pos 0)) .said ≡ Ended (Committed 1 136)
+  pub commits-one : step (run (mountedAs l table 0) ops) (Return (pos 0)) .said ≡ Ended (Committed 1 136)
   commits-one = rw (at₂ .is) (committed-exactly w₂ (pos 0) 1 136 .1 (meets, (sym count-1, sym staged-136)))

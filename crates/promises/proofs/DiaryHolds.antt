@@ -13,7 +13,8 @@ use Rattle.le.specs.Le.{Bytes}
 use Rattle.le.proofs.SpliceLaws.{length-splice}
 use Rattle.manifest.specs.Saying.{chargeOf}
 use Rattle.card.specs.Pick.{All}
-use Rattle.card.specs.Records.{upTo, records}
+use Rattle.card.specs.Records.{records}
+use Rattle.card.proofs.RecordsLaws.{no-records}
 use Rattle.card.specs.Walk.{chainTo}
 use Rattle.card.proofs.PickLaws.{all-map}
 use Rattle.card.proofs.WalkLaws.{laid-one, laid-next, to-chain}
@@ -42,12 +43,8 @@ record Carries (staging : List ℕ) (staged count next : ℕ) (rs : List (List �
   chained : chainTo (take staged staging) next (next + count) ≡ true
   are : records (take staged staging) next ≡ rs
 
-no-records : (s : List ℕ) (next : ℕ) → records (take 0 s) next ≡ []
-unfolding records upTo
-no-records s next = refl
-
 none-carried : (staging : List ℕ) (next : ℕ) → Carries staging 0 0 next []
-none-carried s next = record { within = omega arith; chained = to-chain (take 0 s) next (next + 0) (rw (no-records s next)) (rw (no-records s next)); are = no-records s next }
+none-carried s next = record { within = omega arith; chained = to-chain (take 0 s) next (next + 0) (rw (no-records next)) (rw (no-records next)); are = no-records next }
 
 -- one more event
 one-more : (w : World) (rs : List (List ℕ)) (r : List ℕ) (n : ℕ) → Carries (w .lent .staging) (w .host .weave .staged) (w .host .weave .count) (w .host .next .0) rs
@@ -99,7 +96,7 @@ module _ (w : World) (o : Op) (bytes : Bytes (memoryOf o)) (d : Diary) (a : Agre
 
   -- nothing is staged, in a weave with such a trace
   emptied-agrees : (v : Weave) (staging : List ℕ) → v .staged ≡ 0 → v .count ≡ 0 → v .units ≡ 0 → length (v .trace) ≡ 32
-      → Agrees (record { host = withWeave (w .host) v; lent = lentAs staging (w .lent .card) (w .lent .text); charge = w .charge }) (record { kept = d .kept; staged = []; units = 0 })
+      → Agrees (record { host = withWeave (w .host) v; lent = lentAs staging (w .lent .card) (w .lent .text); index = w .index; charge = w .charge }) (record { kept = d .kept; staged = []; units = 0 })
   unfolding withWeave
   emptied-agrees v staging s c u t =
       let n = none-carried staging (w .host .next .0) in
@@ -165,12 +162,12 @@ lends-memory os b = all-map LendsBytes (λ (o : Op). Bytes (memoryOf o)) (λ o h
 
 -- ---- mount
 
-module _ (charge : ℕ → ℕ) (l : Lent) (used′ : ℕ) where
+module _ (charge : ℕ → ℕ) (l : Lent) (table : List ℕ) (used′ : ℕ) where
   -- a mount that is not refused agrees
-  pub mount-agrees : mounted l used′ .code ≡ Fine → Agrees (mountedUnder charge l used′) (firstPage l used′)
+  pub mount-agrees : mounted l table used′ .code ≡ Fine → Agrees (mountedUnder charge l table used′) (firstPage l used′)
   unfolding freshWeave
   mount-agrees e =
-      let f = mount-fine l used′ e in
+      let f = mount-fine l table used′ e in
       let h = f .state in
       let n = none-carried (l .staging) (1 + length (recordsOn (l .card) used′)) in
       record {
@@ -185,11 +182,11 @@ module _ (charge : ℕ → ℕ) (l : Lent) (used′ : ℕ) where
       }
 
   -- THE PROMISE over the life of a box: mounted, and asked whatever may be asked, it agrees with the diary, by any charge rule
-  pub ruled-agrees : (os : List Op) → All (λ (o : Op). Bytes (memoryOf o)) os → mounted l used′ .code ≡ Fine
-      → Agrees (run (mountedUnder charge l used′) os) (diary (mountedUnder charge l used′) (firstPage l used′) os)
-  ruled-agrees os b e = agrees-run os (mountedUnder charge l used′) (firstPage l used′) b (mount-agrees e)
+  pub ruled-agrees : (os : List Op) → All (λ (o : Op). Bytes (memoryOf o)) os → mounted l table used′ .code ≡ Fine
+      → Agrees (run (mountedUnder charge l table used′) os) (diary (mountedUnder charge l table used′) (firstPage l used′) os)
+  ruled-agrees os b e = agrees-run os (mountedUnder charge l table used′) (firstPage l used′) b (mount-agrees e)
 
 -- .. so by the one that the manifest names
-pub life-agrees : (l : Lent) (used : ℕ) (os : List Op) → All (λ (o : Op). Bytes (memoryOf o)) os → mounted l used .code ≡ Fine
-    → Agrees (run (mountedAs l used) os) (diary (mountedAs l used) (firstPage l used) os)
-life-agrees l used = ruled-agrees (chargeOf (l .text)) l used
+pub life-agrees : (l : Lent) (table : List ℕ) (used : ℕ) (os : List Op) → All (λ (o : Op). Bytes (memoryOf o)) os → mounted l table used .code ≡ Fine
+    → Agrees (run (mountedAs l table used) os) (diary (mountedAs l table used) (firstPage l used) os)
+life-agrees l table used = ruled-agrees (chargeOf (l .text)) l table used

@@ -9,6 +9,8 @@ use native.Mathlib.Nat.{not-suc-le-zero, le-of-suc-le-suc}
 use borrow.Author.Tests.{leb-true}
 use lib.IntN.{ℤ, pos, negsuc}
 use lib.Dec.{T, leb, eqb, eqb→eq}
+use Rattle.card.specs.Records.{size}
+use Rattle.card.specs.Look.{AtEnd, Full, Look, stopped, with}
 use lib.ListN.{length, getD}
 use Rattle.le.specs.Le.{leAt, leBytes}
 use Rattle.le.specs.Splice.{part}
@@ -29,7 +31,7 @@ use Rattle.card.specs.declared.Page.the-variants.{End, Short, Bytes}
 use Rattle.weave.specs.declared.Code.{Code}
 use Rattle.weave.specs.declared.Code.the-variants.{Fine, Denied, NotNow, Unsound, NoRoom, Bad, Budget, BadValue}
 use Rattle.weave.specs.declared.Spoiled.the-variants.{Not}
-use Rattle.weave.specs.Codes.{isFine, firstBy, need, reasonOf}
+use Rattle.weave.specs.Codes.{isFine, firstBy, need, reasonOf, number}
 use Rattle.weave.specs.Args.{nextArgs}
 use Rattle.takes.specs.Pages.{pageBytes}
 use Rattle.host.specs.declared.Fate.the-variants.{Discarded}
@@ -38,7 +40,9 @@ use Rattle.promises.specs.Box.{World, Return, Ended, step}
 use Rattle.promises.specs.Outcome.{Returns}
 use Rattle.promises.specs.Turn.{listLeft}
 use Rattle.promises.specs.Edges.{Case, total, stored, flags, span, float, topic, filter, kept, text, window, twoLeft, returned, costs, Holds, edges}
-use Rattle.promises.proofs.NextHolds.{pageSays, next-says, two-left, window-none, limit-none}
+use Rattle.promises.specs.Checks.{nextLooks}
+use Rattle.promises.proofs.NextHolds.{lookSays, next-says, two-left, window-none, limit-none}
+use Rattle.promises.proofs.OutcomeHolds.{indexed-fine}
 
 -- ---- answers that are found the same are equal
 
@@ -97,31 +101,42 @@ untrue false t = refl
 discards : (w : World) (code : ℤ) (c : Code) → Returns w → w .host .weave .spoiled .0 ≡ Not → reasonOf code ≡ c → isFine c ≡ false
     → step w (Return code) .said ≡ Ended (Discarded c)
 unfolding step returnAnswer fateOf returnCheck whyNot firstBy need
-discards w code c r u e n = rw (r .check-1, r .running, u, e, n)
+discards w code c r u e n = rw (indexed-fine (w .lent) (w .index) (w .host) (r .table-long) (r .check-1), r .running, u, e, n)
 
 -- a next into k bytes where two records of 152 are left
 twoSays : ℕ → ℤ
-twoSays k = pageSays (cond (leb 152 k) (Bytes (152 + cond (leb 152 (k - 152)) 152 0)) Short)
+twoSays k = cond (leb 152 k) (cond (leb 152 (k - 152)) (pos 304) (pos 152)) (number NoRoom)
 
 two-says : (k : ℕ) → Holds (twoLeft k (twoSays k))
 unfolding twoSays
-two-says k w m a r s ready c e x y = next-says w m a _ (two-left w m a r s k c e x y) 304 ready (go (leb 152 k) (leb 152 (k - 152)))
+two-says k w m a r s ready x c e p q = next-says w m a 304 ready (rw is (small (leb 152 k) (leb 152 (k - 152)))) ∙ rw is (go (leb 152 k) (leb 152 (k - 152)))
   where
-    go : (t u : Bool) → pageBytes (cond t (Bytes (152 + cond u 152 0)) Short) ≤ 304
-    go true true = omega arith
-    go true false = omega arith
-    go false u = omega arith
+    is : nextLooks w m a ≡ cond (leb 152 k) (with r (cond (leb 152 (k - 152)) (with s (stopped AtEnd)) (stopped Full))) (stopped Full)
+    is = two-left w m a x r s k c e p q
 
--- a window that is empty, or no limit: nothing is left
+    both : Bool → Bool → Look
+    both t u = cond t (with r (cond u (with s (stopped AtEnd)) (stopped Full))) (stopped Full)
+
+    small : (t u : Bool) → size (both t u .part) ≤ 304
+    small true true = omega (arith, p, q)
+    small true false = omega (arith, p)
+    small false u = omega arith
+
+    go : (t u : Bool) → lookSays (both t u .stop) (size (both t u .part)) ≡ cond t (cond u (pos 304) (pos 152)) (number NoRoom)
+    go true true = rw (p, q)
+    go true false = rw p
+    go false u = refl
+
+-- a window that is empty, or no limit: nothing is looked at
 none-says : (from to limit : ℕ) → T (leb to from || eqb limit 0) → Holds (window from to limit (pos 0))
-unfolding pageOf
-none-says from to limit t w m a ready f g e =
-    let empty : listLeft w (nextArgs m a .handle) ≡ [] = go (tested (leb to from)) in
-    next-says w m a End (rw empty) 0 ready (omega arith)
+none-says from to limit t w m a ready f g e = next-says w m a 0 ready (rw empty (omega arith)) ∙ rw empty
   where
-    go : Tested (leb to from) → listLeft w (nextArgs m a .handle) ≡ []
-    go (passes q) = window-none w m a (rw (f, g) (leb-true to from q))
-    go (fails q) = limit-none w m a (e ∙ eqb→eq limit 0 (rw q at t))
+    empty : nextLooks w m a ≡ stopped AtEnd
+    empty = go (tested (leb to from))
+      where
+        go : Tested (leb to from) → nextLooks w m a ≡ stopped AtEnd
+        go (passes q) = window-none w m a (rw (f, g) (leb-true to from q))
+        go (fails q) = limit-none w m a (e ∙ eqb→eq limit 0 (rw q at t))
 
 test : Case → Bool
 test (total t d n) = eqb (totalLen t d) n

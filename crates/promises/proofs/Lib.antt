@@ -15,8 +15,10 @@ pub mod RefusalHolds
 pub mod WeaveHolds
 pub mod CountHolds
 pub mod CardHolds
+pub mod IndexHolds
 pub mod DiaryHolds
 pub mod LifeHolds
+pub mod EntriesHold
 pub mod AskedHolds
 pub mod ShownLaws
 pub mod ReadBackHolds

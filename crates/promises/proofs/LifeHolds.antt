@@ -127,11 +127,11 @@ pub few-records : (rs : List (List ℕ)) → All Long rs → length rs ≤ size 
 few-records [] a = omega arith
 few-records (r ∷ rs) a = omega (arith, a .0, few-records rs (a .1))
 
-module _ (l : Lent) (used′ : ℕ) where
-  mount-sane : mounted l used′ .code ≡ Fine → Sane (mountedAs l used′)
+module _ (l : Lent) (table : List ℕ) (used′ : ℕ) where
+  mount-sane : mounted l table used′ .code ≡ Fine → Sane (mountedAs l table used′)
   unfolding freshWeave
   mount-sane e =
-      let f = mount-fine l used′ e in
+      let f = mount-fine l table used′ e in
       let h = f .state in
       let part-long = length-take-le used′ (l .card) (f .on-card) in
       let few = few-records (recordsOn (l .card) used′) (records-long (take used′ (l .card)) 1) in
@@ -143,8 +143,8 @@ module _ (l : Lent) (used′ : ℕ) where
       }
 
   -- THE PROMISE: after any calls check 1 passes
-  pub life-sane : (os : List Op) → All (λ (o : Op). Bytes (memoryOf o)) os → mounted l used′ .code ≡ Fine
-      → isFine (lentCheck (run (mountedAs l used′) os .lent) (run (mountedAs l used′) os .host)) ≡ true
+  pub life-sane : (os : List Op) → All (λ (o : Op). Bytes (memoryOf o)) os → mounted l table used′ .code ≡ Fine
+      → isFine (lentCheck (run (mountedAs l table used′) os .lent) (run (mountedAs l table used′) os .host)) ≡ true
   life-sane os b e =
-      sane-check (run (mountedAs l used′) os) (diary (mountedAs l used′) (firstPage l used′) os) (life-agrees l used′ os b e)
-      (sane-run os (mountedAs l used′) (firstPage l used′) b (mount-agrees _ l used′ e) (mount-sane e))
+      sane-check (run (mountedAs l table used′) os) (diary (mountedAs l table used′) (firstPage l used′) os) (life-agrees l table used′ os b e)
+      (sane-run os (mountedAs l table used′) (firstPage l used′) b (mount-agrees _ l table used′ e) (mount-sane e))

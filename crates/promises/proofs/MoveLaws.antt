@@ -22,10 +22,11 @@ use Rattle.weave.specs.Table.{freeSlot, noSlots, hasHandle, slotPlace}
 use Rattle.weave.specs.Moves.{cursorOf}
 use Rattle.weave.specs.States.{freshWeave}
 use Rattle.takes.specs.Begun.{begun}
-use Rattle.host.specs.Hosts.{lentAs, withWeave}
+use Rattle.card.specs.Index.{entered as enteredInto}
+use Rattle.host.specs.Hosts.{lentAs, withWeave, cardCount}
 use Rattle.reads.specs.Paging.{nextList}
 use Rattle.host.specs.Ending.{committed}
-use Rattle.promises.specs.Box.{World, Op, step, isRefused, memoryOf, argsOf}
+use Rattle.promises.specs.Box.{World, Indexed, stagedRecords, Op, step, isRefused, memoryOf, argsOf}
 use Rattle.promises.specs.Refusal.{Unchanged}
 use Rattle.promises.specs.Outcome.{Conditions, saysCommitted, isReturned}
 use Rattle.promises.specs.Diary.{Diary, emptied, entered}
@@ -54,11 +55,11 @@ pub data Staging (w : World) (o : Op) : Type 0 where
   Kept : Staging w o
   Staged : (r : List ℕ) (n : ℕ) → (Bytes (memoryOf o) → Traced w → Stageable (w .lent) (w .host) r n) → Staging w o
 
--- the cursors: one is opened, hands over a page into so many bytes, is closed; a return closes all
+-- the cursors: one is opened, hands over a page, is closed; a return closes all. On a sound card with a table that fits, the page is the walk's, into so many bytes
 pub data Cursors (w : World) (o : Op) : Type 0 where
   Same : Cursors w o
   Opens : (s : Slot) → s .handle ≡ added (w .host .weave .opened) 1 65535 → slotFine (w .host .weave) ≡ true → Cursors w o
-  Hands : (k cap : ℕ) → handleFine (w .host .weave) k ≡ true → Cursors w o
+  Hands : (k : ℕ) (rs : List (List ℕ)) → handleFine (w .host .weave) k ≡ true → (cap : ℕ) → (Indexed w → rs ≡ fit cap (nextList (w .lent) (w .host) k)) → Cursors w o
   Closes : (k : ℕ) → handleFine (w .host .weave) k ≡ true → Cursors w o
   Cleared : (InTurn o → ⊥) → Cursors w o
 
@@ -81,10 +82,6 @@ pub record Change (w : World) (o : Op) : Type 0 where
 -- an accepted call of a turn, but for a panic
 abbrev pub called : (w : World) (o : Op) → Cost w → Staging w o → Cursors w o → Change w o
 called w o cost′ staging′ cursors′ = record { cost = cost′; staging = staging′; cursors = cursors′; mark = Unmarked; turn = Stays }
-
--- the page that a cursor hands over
-abbrev pub pageFrom : World → ℕ → ℕ → List (List ℕ)
-pageFrom w k room = fit room (nextList (w .lent) (w .host) k)
 
 abbrev pub unitsAfter : (w : World) → Cost w → ℕ
 unitsAfter w Unpaid = w .host .weave .units
@@ -112,15 +109,15 @@ stagingAfter w o (Staged r n g) = splice (w .lent .staging) (w .host .weave .sta
 abbrev pub openedAfter : (w : World) (o : Op) → Cursors w o → ℕ
 openedAfter w o Same = w .host .weave .opened
 openedAfter w o (Opens s e f) = added (w .host .weave .opened) 1 65535
-openedAfter w o (Hands k room f) = w .host .weave .opened
+openedAfter w o (Hands k rs f room g) = w .host .weave .opened
 openedAfter w o (Closes k f) = w .host .weave .opened
 openedAfter w o (Cleared i) = w .host .weave .opened
 
 abbrev pub slotsAfter : (w : World) (o : Op) → Cursors w o → List Slot
 slotsAfter w o Same = w .host .weave .slots
 slotsAfter w o (Opens s e f) = set (w .host .weave .slots) (slotPlace (hasHandle 0) (w .host .weave .slots)) s
-slotsAfter w o (Hands k room f) =
-    set (w .host .weave .slots) (slotPlace (hasHandle k) (w .host .weave .slots)) (record { handle = k; cursor = advance (cursorOf (w .host .weave) k) (pageFrom w k room) })
+slotsAfter w o (Hands k rs f room g) =
+    set (w .host .weave .slots) (slotPlace (hasHandle k) (w .host .weave .slots)) (record { handle = k; cursor = advance (cursorOf (w .host .weave) k) rs })
 slotsAfter w o (Closes k f) = set (w .host .weave .slots) (slotPlace (hasHandle k) (w .host .weave .slots)) freeSlot
 slotsAfter w o (Cleared i) = noSlots
 
@@ -171,14 +168,14 @@ unitsBy w (Paid charge b) u = u + charge
 abbrev pub openedBy : (w : World) (o : Op) → Cursors w o → ℕ → ℕ
 openedBy w o Same n = n
 openedBy w o (Opens s e f) n = n + 1
-openedBy w o (Hands k room f) n = n
+openedBy w o (Hands k rs f room g) n = n
 openedBy w o (Closes k f) n = n
 openedBy w o (Cleared i) n = n
 
 abbrev pub openBy : (w : World) (o : Op) → Cursors w o → List ℕ → List ℕ
 openBy w o Same hs = hs
 openBy w o (Opens s e f) hs = s .handle ∷ hs
-openBy w o (Hands k room f) hs = hs
+openBy w o (Hands k rs f room g) hs = hs
 openBy w o (Closes k f) hs = without k hs
 openBy w o (Cleared i) hs = []
 
@@ -186,7 +183,7 @@ openBy w o (Cleared i) hs = []
 abbrev pub handedOn : ℕ → (w : World) (o : Op) → Cursors w o → List (List ℕ)
 handedOn j w o Same = []
 handedOn j w o (Opens s e f) = []
-handedOn j w o (Hands k room f) = cond (eqb k j) (pageFrom w k room) []
+handedOn j w o (Hands k rs f room g) = cond (eqb k j) rs []
 handedOn j w o (Closes k f) = []
 handedOn j w o (Cleared i) = []
 
@@ -201,33 +198,36 @@ pub data Move (w : World) (o : Op) : Type 0 where
   Rests : Move w o
   Begins : (args : List ℕ) → w .host .weave .running ≡ false → (Bytes (argsOf o) → Bytes args) → Move w o
   GoesOn : w .host .weave .running ≡ true → Change w o → Move w o
-  Commits : (InTurn o → ⊥) → saysCommitted (step w o .said) ≡ true → (code : ℤ) → Conditions (w .lent) (w .host) code → Move w o
+  Commits : (InTurn o → ⊥) → saysCommitted (step w o .said) ≡ true → (code : ℤ) → Conditions (w .lent) (w .index) (w .host) code → Move w o
   Discards : (InTurn o → ⊥) → Move w o
 
 abbrev pub after : (w : World) (o : Op) → Move w o → World
 after w o Rests = w
 after w o (Begins args i b) =
-    record { host = withWeave (w .host) (begun args); lent = lentAs (zeros (length (w .lent .staging))) (w .lent .card) (w .lent .text); charge = w .charge }
+    record { host = withWeave (w .host) (begun args); lent = lentAs (zeros (length (w .lent .staging))) (w .lent .card) (w .lent .text); index = w .index; charge = w .charge }
 after w o (GoesOn r c) =
     record {
       host = record {
         lengths = w .host .lengths;
+        index = w .host .index;
         used = w .host .used;
         next = w .host .next;
         faulted = faultedBy (c .mark) (w .host .faulted);
         weave = weaveAfter w o c;
       };
       lent = lentAs (stagingAfter w o (c .staging)) (w .lent .card) (w .lent .text);
+      index = w .index;
       charge = w .charge;
     }
 after w o (Commits i s code c) =
     record {
       host = committed (w .host) (w .host .weave .count) (w .host .weave .staged);
       lent = lentAs (zeros (length (w .lent .staging))) (splice (w .lent .card) (w .host .used) (take (w .host .weave .staged) (w .lent .staging))) (w .lent .text);
+      index = enteredInto (w .index) (cardCount (w .host)) (w .host .used) (stagedRecords w);
       charge = w .charge;
     }
 after w o (Discards i) =
-    record { host = withWeave (w .host) freshWeave; lent = lentAs (zeros (length (w .lent .staging))) (w .lent .card) (w .lent .text); charge = w .charge }
+    record { host = withWeave (w .host) freshWeave; lent = lentAs (zeros (length (w .lent .staging))) (w .lent .card) (w .lent .text); index = w .index; charge = w .charge }
 
 abbrev pub entryBy : (w : World) (o : Op) → Move w o → Diary → Diary
 entryBy w o Rests d = d

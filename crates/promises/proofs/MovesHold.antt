@@ -29,10 +29,17 @@ use Rattle.host.specs.Begin.{beginCheck, beginAnswer, beginStaging}
 use Rattle.writes.specs.Stage.{ingressCheck, ingressAnswer, ingressStaging, isPanic, panicked, written, writeCheck, writeAnswer, writeStaging}
 use Rattle.reads.specs.Reading.{readSound, readCheck, readAnswer, readMemory}
 use Rattle.host.specs.Cursors.{openCheck, openNext, openAnswer, closeCheck, closeNext, closeAnswer, nextHandle}
-use Rattle.reads.specs.Paging.{nextSound, nextCheck, nextHost, nextCursor, nextAnswer, nextMemory}
-use Rattle.host.specs.Ending.{returnCheck, fateOf, finished, returnAnswer, returnCard, returnStaging}
-use Rattle.promises.specs.Box.{World, Op, Begin, Ingress, Write, Read, Open, Next, Close, Return, LookUp, answered, step, isRefused, memoryOf}
-use Rattle.promises.specs.Checks.{Check, failing, lentAsked, gate, writeAsks, readAsks, openAsks, nextAsks, closeAsks, checksOf}
+use Rattle.reads.specs.Paging.{nextFound, nextLook, nextPart, nextCheck, nextHost, cursorBy, answerBy, memoryBy, nextAnswer, nextMemory, nextList, walkLook}
+use Rattle.reads.proofs.PagingLaws.{check-before}
+use Rattle.reads.proofs.IndexedLaws.{look-walks}
+use Rattle.card.specs.Index.{offsets, entered}
+use Rattle.card.specs.Listing.{fit}
+use Rattle.card.specs.Look.{Look}
+use Rattle.card.proofs.LookLaws.{walked-part}
+use Rattle.card.proofs.RecordsLaws.{no-records}
+use Rattle.host.specs.Ending.{returnCheck, fateOf, finished, returnAnswer, returnCard, returnIndex, returnStaging}
+use Rattle.promises.specs.Box.{World, Indexed, Op, Begin, Ingress, Write, Read, Open, Next, Close, Return, LookUp, answered, step, isRefused, memoryOf}
+use Rattle.promises.specs.Checks.{Check, checkAt, failing, lentAsked, indexAsks, gate, writeAsks, readAsks, openAsks, nextAsks, closeAsks, checksOf}
 use Rattle.promises.specs.Outcome.{saysCommitted}
 use Rattle.promises.specs.Diary.{Diary, ingressRecord, writtenRecord, noted}
 use Rattle.promises.specs.Standing.{Standing, done}
@@ -67,6 +74,14 @@ gate-idle w m cs idle = go (leb (length m) 1048576) (lentAsked w .asks) (w .host
     go true true r c e = rw e
     go true false r c e = refl
     go false b r c e = refl
+
+-- .. nor does a next, whose first check is of the table
+next-idle : (w : World) (m : List ℕ) (cs : List Check) → w .host .weave .running ≡ false → isBudget (failing (checkAt (indexAsks w) 254 ∷ (gate w m ++ cs))) ≡ false
+next-idle w m cs idle = go (indexAsks w) (gate-idle w m cs idle)
+  where
+    go : (b : Bool) → isBudget (failing (gate w m ++ cs)) ≡ false → isBudget (cond b (failing (gate w m ++ cs)) Bad) ≡ false
+    go true e = e
+    go false e = refl
 
 -- ---- a call that ends in `settle`
 
@@ -111,7 +126,7 @@ module _ (w : World) (o : Op) (f : Finding) (v : ℕ) (next′ : Host) (staging�
         heard-as = λ s. rw (is, q, q, r);
         given = λ k. rw (is, q, q);
         returned = rw is;
-        refused = λ e. record { lent = rw (is, off q .0); memory = rw (is, off q .1); host = rw (is, q, r) };
+        refused = λ e. record { lent = rw (is, off q .0); index = rw is; memory = rw (is, off q .1); host = rw (is, q, r) };
       }
       go false q false r = record {
         move = Rests;
@@ -120,17 +135,17 @@ module _ (w : World) (o : Op) (f : Finding) (v : ℕ) (next′ : Host) (staging�
         heard-as = λ s. rw (is, q, q, r);
         given = λ k. rw (is, q, q);
         returned = rw is;
-        refused = λ e. record { lent = rw (is, off q .0); memory = rw (is, off q .1); host = rw (is, q, r) };
+        refused = λ e. record { lent = rw (is, off q .0); index = rw is; memory = rw (is, off q .1); host = rw (is, q, r) };
       }
 
 -- ---- a return, by its fate
 
 module _ (w : World) (code : ℤ) where
-  discards : (c : Code) → fateOf (w .lent) (w .host) code ≡ Discarded c → Moved w (Return code)
-  unfolding step returnAnswer returnCard returnStaging finished
+  discards : (c : Code) → fateOf (w .lent) (w .index) (w .host) code ≡ Discarded c → Moved w (Return code)
+  unfolding step returnAnswer returnCard returnIndex entered offsets returnStaging finished
   discards c q = record {
     move = Discards (λ i. i);
-    world = rw (q, splice-nil);
+    world = rw (q, no-records, splice-nil, splice-nil);
     entry = λ b t d. rw q;
     heard-as = λ s. rw q;
     given = λ k. rw q;
@@ -139,24 +154,24 @@ module _ (w : World) (code : ℤ) where
   }
 
   -- a return is not refused with -6
-  return-mild : isBudget (returnCheck (w .lent) (w .host)) ≡ false
+  return-mild : isBudget (returnCheck (w .lent) (w .index) (w .host)) ≡ false
   return-mild = ap isBudget (return-code w .is) ∙ no-budget (checksOf w (Return code)) refl
 
-  fate-moved : Fated (w .lent) (w .host) code → Moved w (Return code)
-  unfolding step returnAnswer returnCard returnStaging finished withWeave turned
+  fate-moved : Fated (w .lent) (w .index) (w .host) code → Moved w (Return code)
+  unfolding step returnAnswer returnCard returnIndex entered offsets returnStaging finished withWeave turned
   fate-moved (turned-away a q) = record {
     move = Rests;
-    world = rw (q, splice-nil);
+    world = rw (q, no-records, splice-nil, splice-nil);
     entry = λ b t d. rw q;
     heard-as = λ s. rw (q, return-mild);
     given = λ k. rw q;
     returned = rw q;
-    refused = λ e. record { lent = rw (q, splice-nil); memory = refl; host = rw (q, return-mild) };
+    refused = λ e. record { lent = rw (q, splice-nil); index = rw (q, no-records, splice-nil); memory = refl; host = rw (q, return-mild) };
   }
   fate-moved (has-reason a b q) = discards _ q
   fate-moved (turns-on a b low q) = record {
-    move = GoesOn (return-runs (w .lent) (w .host) a) (record { cost = Unpaid; staging = Kept; cursors = Cleared (λ i. i); mark = Unmarked; turn = Turns (λ i. i) low });
-    world = rw (q, splice-nil);
+    move = GoesOn (return-runs (w .lent) (w .index) (w .host) a) (record { cost = Unpaid; staging = Kept; cursors = Cleared (λ i. i); mark = Unmarked; turn = Turns (λ i. i) low });
+    world = rw (q, no-records, splice-nil, splice-nil);
     entry = λ b t d. rw q;
     heard-as = λ s. rw q;
     given = λ k. rw q;
@@ -165,7 +180,7 @@ module _ (w : World) (code : ℤ) where
   }
   fate-moved (ends-badly a b c f q) = discards _ q
   fate-moved (ends-well a b c f q) = record {
-    move = Commits (λ i. i) (rw q) code (conditions (w .lent) (w .host) code _ _ q .0);
+    move = Commits (λ i. i) (rw q) code (conditions (w .lent) (w .index) (w .host) code _ _ q .0);
     world = rw q;
     entry = λ b t d. rw q;
     heard-as = λ s. rw q;
@@ -182,6 +197,9 @@ module _ (w : World) where
 
   abbrev h : Host
   h = w .host
+
+  abbrev table : List ℕ
+  table = w .index
 
   begin-moved : (args : List ℕ) → Moved w (Begin args)
   unfolding step beginAnswer beginStaging settle withWeave
@@ -263,15 +281,21 @@ module _ (w : World) where
           stays = refl;
         })
 
+    -- on a sound card with a table that fits, what is handed over is the walk's page
+    pub next-hands : Indexed w → nextPart l table h m at ≡ fit (nextArgs m at .out .len) (nextList l h (nextArgs m at .handle))
+    unfolding walkLook
+    next-hands i = ap (λ (k : Look). k .part) (look-walks l table h (i .sound) (i .fits) m at) ∙ rw (i .sound) (walked-part (nextArgs m at .out .len) (nextList l h (nextArgs m at .handle)))
+
     next-moved : Moved w (Next m at)
-    unfolding step nextAnswer nextMemory nextCheck nextHost nextCursor settle withWeave movedTo tabled paid
+    unfolding step nextAnswer answerBy nextMemory memoryBy nextHost cursorBy settle withWeave movedTo tabled paid
     next-moved =
-        settled w (Next m at) (nextCheck l h m at) _ _ (l .staging) (nextMemory l h m at) refl (λ e. (refl, rw e)) (next-finds w m at) (gate-idle w m (nextAsks w m at))
+        settled w (Next m at) (nextCheck l table h m at) _ _ (l .staging) (nextMemory l table h m at) refl (λ e. (refl, rw e)) (next-finds w m at) (next-idle w m (nextAsks w m at))
         (λ a f.
         let may = next-exactly w m at .0 a in
-        let page = next-page w m at (found-left (nextSound l h m at) _ f) in
+        let page = next-page w m at (check-before h (nextFound l table h m at) (nextLook l table h m at) f) in
         record {
-          move = GoesOn (may .gated .running) (called w _ (Paid _ (may .budget)) Kept (Hands (nextArgs m at .handle) (nextArgs m at .out .len) (may .handle)));
+          move = GoesOn (may .gated .running)
+              (called w _ (Paid _ (may .budget)) Kept (Hands (nextArgs m at .handle) (nextPart l table h m at) (may .handle) (nextArgs m at .out .len) next-hands));
           world = rw (f, page);
           entry = λ b t d. rw (f, page);
           heard-as = λ s. refl;
@@ -307,7 +331,7 @@ module _ (w : World) where
   moved (Open m at) = open-moved m at
   moved (Next m at) = next-moved m at
   moved (Close m at) = close-moved m at
-  moved (Return code) = fate-moved w code (fated (w .lent) (w .host) code)
+  moved (Return code) = fate-moved w code (fated (w .lent) (w .index) (w .host) code)
   moved (LookUp id) = look-moved id
 
 -- a next on the cursor k

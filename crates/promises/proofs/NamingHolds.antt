@@ -49,6 +49,7 @@ use Rattle.promises.proofs.ListHolds.{all-allowed}
 use Rattle.promises.proofs.MountHolds.{mounts}
 use Rattle.promises.proofs.ReadBackHolds.{kept-found}
 use Rattle.promises.proofs.ReadHolds.{read-lists}
+use Rattle.promises.proofs.IndexHolds.{mount-kept}
 use Rattle.promises.proofs.PagesHold.{records-long}
 
 -- ---- what may be named, and what a card may keep, in the documents' own words
@@ -126,8 +127,8 @@ reads-no-del w m at e =
 
 -- ---- what a card holds
 
-module _ (staging text front : List ℕ) (h : Header) (trace topic payload : List ℕ) (least : 65536 ≤ length staging) (most : length staging ≤ 1048576)
-    (good : isGood (manifestOf text) ≡ true) (may : MayFollow front h trace topic payload) where
+module _ (staging text table front : List ℕ) (h : Header) (trace topic payload : List ℕ) (least : 65536 ≤ length staging) (most : length staging ≤ 1048576)
+    (good : isGood (manifestOf text) ≡ true) (entries : h .id .0 ≤ length table) (may : MayFollow front h trace topic payload) where
   abbrev r : List ℕ
   r = recordBytes h trace topic payload
 
@@ -161,9 +162,9 @@ module _ (staging text front : List ℕ) (h : Header) (trace topic payload : Lis
       rw (take-all (length card′) card′ (omega arith))
       (records-append r front 1 (may .sound) ∙ rw (← may .number, records-one r (h .id .0) sound))
 
-  pub kept-mounts : mounted l (length card′) .code ≡ Fine
+  pub kept-mounts : mounted l table (length card′) .code ≡ Fine
   kept-mounts =
-      mounts l (length card′) .code
+      mounts l table (length card′) .code
       ∙ rw (
         le-leb 65536 (length staging) least,
         le-leb (length staging) 1048576 most,
@@ -172,15 +173,16 @@ module _ (staging text front : List ℕ) (h : Header) (trace topic payload : Lis
         good,
         on-card,
         eq-eqb (size (records front 1 ++ (r ∷ []))) (length card′) (omega (arith, size-append (records front 1) (r ∷ []), may .sound, length-append front r)),
+        le-leb (length (records front 1 ++ (r ∷ []))) (length table) (omega (arith, length-append (records front 1) (r ∷ []), may .number, entries)),
       )
 
-  pub kept-shown : step (mountedAs l (length card′)) (LookUp (h .id .0)) .said ≡ Part r
+  pub kept-shown : step (mountedAs l table (length card′)) (LookUp (h .id .0)) .said ≡ Part r
   kept-shown =
       let i = length (records front 1) in
-      let here = kept-found (mountedAs l (length card′)) (firstPage l (length card′)) (mount-agrees _ l (length card′) kept-mounts) (life-sane l (length card′) [] tt kept-mounts) i
+      let here = kept-found (mountedAs l table (length card′)) (firstPage l (length card′)) (mount-agrees _ l table (length card′) kept-mounts) (mount-kept _ l table (length card′) kept-mounts) (life-sane l table (length card′) [] tt kept-mounts) i
       (rw on-card (omega (arith, length-append (records front 1) (r ∷ [])))) in
       let number : h .id .0 ≡ i + 1 = omega (arith, may .number) in
-      ap (λ (k : ℕ). step (mountedAs l (length card′)) (LookUp k) .said) number ∙ here ∙ ap Part (rw on-card (getD-append-seam (records front 1) r [] []))
+      ap (λ (k : ℕ). step (mountedAs l table (length card′)) (LookUp k) .said) number ∙ here ∙ ap Part (rw on-card (getD-append-seam (records front 1) r [] []))
 
   pub kept-named : topicOf r ≡ topic
   kept-named = record-topic h trace topic payload (may .traced) small

@@ -1,104 +1,83 @@
--- What a next answers, by the page that it finds.
+-- What a next answers, by what it looks at.
 -- Assumes nothing.
-use mathlib.Core.Path.{_≡_, refl, sym, ap, _∙_}
-use mathlib.Core.Bool.{Bool, true, false, cond}
+use mathlib.Core.Path.{_≡_, refl, ap, _∙_}
+use mathlib.Core.Bool.{Bool, true, false, not, cond}
 use mathlib.Core.List.{List, [], _∷_, _++_}
-use Prim.Native.Nat.{ℕ, zero, suc, _+_, _-_, _≤_}
+use Prim.Native.Nat.{ℕ, zero, suc, _+_, _-_, _/_, _≤_}
+use native.Mathlib.Nat.{zero-add}
 use native.Mathlib.Omega.{arith}
-use borrow.Author.Tests.{le-leb}
-use lib.Dec.{leb}
+use borrow.Author.Tests.{le-leb, ne-eqb}
+use lib.Dec.{leb, eqb}
 use lib.IntN.{ℤ, pos}
-use lib.ListN.{length, take}
-use Rattle.le.proofs.TestLaws.{Tested, passes, fails, tested}
-use Rattle.card.specs.Pick.{only}
+use lib.ListN.{length}
 use Rattle.card.specs.Records.{size}
-use Rattle.card.specs.Listing.{listed, inOrder, listOf, fit, pageOf}
-use Rattle.card.specs.declared.Cursor.{Cursor}
-use Rattle.card.specs.declared.Page.{Page}
-use Rattle.card.specs.declared.Page.the-variants.{End, Short, Bytes}
-use Rattle.card.proofs.PickLaws.{only-not}
+use Rattle.card.specs.Look.{Stop, AtEnd, Full, AtFault, Look, stopped, with, look, walked, endOf, shortOf, pageAt, pageAfter, pageBy, isFault}
+use Rattle.card.proofs.LookLaws.{look-nothing, window-empty}
 use Rattle.weave.specs.declared.Code.{Code}
-use Rattle.weave.specs.declared.Code.the-variants.{Fine, NoRoom}
+use Rattle.weave.specs.declared.Code.the-variants.{Fine, Unsound, NoRoom}
 use Rattle.weave.specs.Codes.{isFine, number}
 use Rattle.weave.specs.Args.{nextArgs}
-use Rattle.takes.specs.Pages.{pageBytes, pageCharge}
-use Rattle.reads.specs.Paging.{nextList, nextAnswer}
-use Rattle.promises.specs.Box.{World, Next, step, codeOf, saidNumber}
-use Rattle.promises.specs.Checks.{Check, failing, gate, paged, nextFirst}
+use Rattle.host.specs.Hosts.{firstId}
+use Rattle.reads.specs.Paging.{lookIn, nextLook, answerBy, nextAnswer, walkLook}
+use Rattle.reads.proofs.IndexedLaws.{look-walks}
+use Rattle.promises.specs.Box.{World, Indexed, Next, step, codeOf, saidNumber}
+use Rattle.promises.specs.Checks.{Check, check, checkAt, failing, indexAsks, gate, paged, nextFirst, nextLooks}
 use Rattle.promises.specs.Diary.{answerOf}
 use Rattle.promises.specs.Turn.{listLeft}
 use Rattle.promises.specs.Edges.{Ready, cursorAt}
 use Rattle.promises.proofs.CheckLaws.{passed-on}
 use Rattle.promises.proofs.ChecksHold.{code-is}
-use Rattle.promises.proofs.AnswersHold.{answers-are, page-bytes}
-use Rattle.promises.proofs.ListHolds.{listed-means}
+use Rattle.promises.proofs.AnswersHold.{answers-are}
 
--- the number of a page
-abbrev pub pageSays : Page → ℤ
-pageSays End = pos 0
-pageSays Short = number NoRoom
-pageSays (Bytes n) = pos n
+-- what a look that ended well makes of a next: 0 at the end, -4 where its first record does not fit, else its bytes
+abbrev pub lookSays : Stop → ℕ → ℤ
+lookSays AtEnd n = pos n
+lookSays Full n = cond (eqb n 0) (number NoRoom) (pos n)
+lookSays AtFault n = number Unsound
 
 module _ (w : World) (m : List ℕ) (a : ℕ) where
-  abbrev found : Page
-  found = pageOf (nextArgs m a .out .len) (listLeft w (nextArgs m a .handle))
+  abbrev seen : Look
+  seen = nextLooks w m a
 
-  said-by : (c : Code) → codeOf (step w (Next m a) .said) ≡ c → (v : ℕ) → (isFine c ≡ true → answerOf (step w (Next m a) .said) ≡ v)
-      → saidNumber (step w (Next m a) .said) ≡ cond (isFine c) (pos v) (number c)
-  unfolding step nextAnswer
-  said-by c e v f = rw e (go (isFine c) refl)
+  said-by : (c : Code) → codeOf (step w (Next m a) .said) ≡ c → saidNumber (step w (Next m a) .said) ≡ cond (isFine c) (pos (size (seen .part))) (number c)
+  unfolding step nextAnswer answerBy
+  said-by c e = rw e (go (isFine c) refl)
     where
-      go : (t : Bool) → isFine c ≡ t → cond t (pos (answerOf (step w (Next m a) .said))) (number c) ≡ cond t (pos v) (number c)
-      go true q = ap pos (f q)
+      go : (t : Bool) → isFine c ≡ t → cond t (pos (answerOf (step w (Next m a) .said))) (number c) ≡ cond t (pos (size (seen .part))) (number c)
+      go true q = ap pos (answers-are w (Next m a) (rw (e, q)))
       go false q = refl
 
-  fine-answer : isFine (codeOf (step w (Next m a) .said)) ≡ true → answerOf (step w (Next m a) .said) ≡ pageBytes found
-  unfolding step nextAnswer
-  fine-answer e = answers-are w (Next m a) (rw e) ∙ sym (page-bytes _ _)
-
-  pub next-says : (p : Page) → found ≡ p → (n : ℕ) → Ready w m a n → pageBytes p ≤ n → saidNumber (step w (Next m a) .said) ≡ pageSays p
-  next-says p q n r h =
-      let code : codeOf (step w (Next m a) .said) ≡ failing (paged w p) =
-      code-is w (Next m a) ∙ passed-on (λ (c : Check). c .code) Fine (gate w m ++ nextFirst w m a) (paged w found) (r .passed) ∙ ap (λ (x : Page). failing (paged w x)) q in
-      said-by (failing (paged w p)) code (pageBytes p) (λ f. fine-answer (ap isFine code ∙ f) ∙ ap pageBytes q)
-      ∙ go p (le-leb (w .host .weave .units + pageCharge p) (w .host .weave .resmax) (omega (arith, r .budget)))
+  pub next-says : (n : ℕ) → Ready w m a n → size (seen .part) ≤ n → saidNumber (step w (Next m a) .said) ≡ lookSays (seen .stop) (size (seen .part))
+  unfolding pageAfter endOf shortOf
+  next-says n r h =
+      said-by _
+      (code-is w (Next m a)
+      ∙ passed-on (λ (c : Check). c .code) Fine (checkAt (indexAsks w) 254 ∷ (gate w m ++ nextFirst w m a)) (check (not (isFault (seen .stop))) Unsound ∷ paged w (pageBy seen)) (r .passed))
+      ∙ go (seen .stop) (size (seen .part)) h
     where
-      go : (p : Page) → leb (w .host .weave .units + pageCharge p) (w .host .weave .resmax) ≡ true
-          → cond (isFine (failing (paged w p))) (pos (pageBytes p)) (number (failing (paged w p))) ≡ pageSays p
-      go End e = rw e
-      go Short e = refl
-      go (Bytes k) e = rw e
+      room : (k : ℕ) → k ≤ n → leb (w .host .weave .units + (1 + k / 8)) (w .host .weave .resmax) ≡ true
+      room k h = le-leb (w .host .weave .units + (1 + k / 8)) (w .host .weave .resmax) (omega (arith, r .budget))
 
-  -- two records of 152 are left
-  pub two-left : (r s : List ℕ) (k : ℕ) → nextArgs m a .out .len ≡ k → listLeft w (nextArgs m a .handle) ≡ r ∷ s ∷ [] → length r ≡ 152 → length s ≡ 152
-      → found ≡ cond (leb 152 k) (Bytes (152 + cond (leb 152 (k - 152)) 152 0)) Short
-  unfolding pageOf fit
-  two-left r s k c e x y = rw (c, e, x, y) (go (leb 152 k) refl (leb 152 (k - 152)))
-    where
-      go : (t : Bool) → leb 152 k ≡ t → (u : Bool) → cond t (Bytes (size (cond t (r ∷ cond u (s ∷ []) []) []))) Short ≡ cond t (Bytes (152 + cond u 152 0)) Short
-      go true q true = rw (x, y)
-      go true q false = rw x
-      go false q u = refl
+      go : (e : Stop) (k : ℕ) → k ≤ n
+          → cond (isFine (failing (check (not (isFault e)) Unsound ∷ paged w (pageAt e (0 + k))))) (pos k) (number (failing (check (not (isFault e)) Unsound ∷ paged w (pageAt e (0 + k))))) ≡ lookSays e k
+      go AtFault k h = refl
+      go AtEnd zero h = rw (room 0 h)
+      go AtEnd (suc k) h = rw (zero-add (suc k), ne-eqb (suc k) 0 (λ q. omega arith), room (suc k) h)
+      go Full zero h = refl
+      go Full (suc k) h = rw (zero-add (suc k), ne-eqb (suc k) 0 (λ q. omega arith), room (suc k) h)
 
--- ---- a window or a limit that takes nothing
+  -- two records of 152 are left, on a sound card
+  pub two-left : Indexed w → (r s : List ℕ) (k : ℕ) → nextArgs m a .out .len ≡ k → listLeft w (nextArgs m a .handle) ≡ r ∷ s ∷ [] → length r ≡ 152 → length s ≡ 152
+      → seen ≡ cond (leb 152 k) (with r (cond (leb 152 (k - 152)) (with s (stopped AtEnd)) (stopped Full))) (stopped Full)
+  unfolding walkLook walked
+  two-left x r s k c e p q = look-walks (w .lent) (w .index) (w .host) (x .sound) (x .fits) m a ∙ rw (x .sound, c, e, p, q)
 
-none-listed : (may : List ℕ → Bool) (c : Cursor) → c .to .0 ≤ c .from .0 → (rs : List (List ℕ)) → only (listed may c) rs ≡ []
-unfolding only
-none-listed may c h [] = refl
-none-listed may c h (r ∷ rs) = go (tested (listed may c r)) (none-listed may c h rs)
-  where
-    go : Tested (listed may c r) → only (listed may c) rs ≡ [] → only (listed may c) (r ∷ rs) ≡ []
-    go (passes q) ih = let m = listed-means may c r q in absurd (omega (arith, m .from, m .to))
-    go (fails q) ih = only-not (listed may c) r rs q ∙ ih
+-- ---- a window or a limit that takes nothing, on any card
 
-take-none : (n : ℕ) → take {A = List ℕ} n [] ≡ []
-take-none zero = refl
-take-none (suc n) = refl
+pub window-none : (w : World) (m : List ℕ) (a : ℕ) → cursorAt w m a .to .0 ≤ cursorAt w m a .from .0 → nextLooks w m a ≡ stopped AtEnd
+unfolding nextLook lookIn look
+window-none w m a h = rw (window-empty (cursorAt w m a) (firstId (w .host)) (w .host .next .0) h)
 
-pub window-none : (w : World) (m : List ℕ) (a : ℕ) → cursorAt w m a .to .0 ≤ cursorAt w m a .from .0 → listLeft w (nextArgs m a .handle) ≡ []
-unfolding nextList listOf
-window-none w m a h = rw (none-listed _ (cursorAt w m a) h (inOrder (cursorAt w m a .desc) _)) (take-none (cursorAt w m a .limit))
-
-pub limit-none : (w : World) (m : List ℕ) (a : ℕ) → cursorAt w m a .limit ≡ 0 → listLeft w (nextArgs m a .handle) ≡ []
-unfolding nextList listOf
-limit-none w m a e = rw e
+pub limit-none : (w : World) (m : List ℕ) (a : ℕ) → cursorAt w m a .limit ≡ 0 → nextLooks w m a ≡ stopped AtEnd
+unfolding nextLook lookIn
+limit-none w m a e = rw e (look-nothing _ _ _ _)

@@ -30,11 +30,13 @@ use Rattle.weave.specs.Args.{writeArgs, readArgs, nextArgs}
 use Rattle.weave.proofs.CodeLaws.{found-left}
 use Rattle.takes.specs.Payloads.{payloadBytes}
 use Rattle.host.specs.Hosts.{lentCheck}
+use Rattle.card.proofs.PickLaws.{all-at}
 use Rattle.writes.specs.Stage.{headerFor, ingressCheck, ingressAnswer, ingressStaging, isPanic, writtenTopic, writeCheck, writeAnswer, writeStaging}
-use Rattle.reads.specs.Paging.{nextList, nextPart, nextCheck, nextAnswer, nextMemory}
-use Rattle.mounts.specs.Mount.{looked}
+use Rattle.reads.specs.Paging.{nextFound, nextLook, nextPart, nextCheck, answerBy, memoryBy, nextAnswer, nextMemory}
+use Rattle.mounts.specs.Mount.{walkLooked}
+use Rattle.mounts.proofs.IndexedLaws.{looked-walks}
 use Rattle.reads.specs.Reading.{readSound, readList, readCheck, readAnswer, readMemory}
-use Rattle.reads.proofs.PagingLaws.{next-lies}
+use Rattle.reads.proofs.PagingLaws.{check-before, next-lies, part-small, part-framed}
 use Rattle.reads.proofs.ReadingLaws.{out-lies}
 use Rattle.promises.specs.Box.{World, Ingress, Write, Read, Next, LookUp, Part, step, isRefused}
 use Rattle.promises.specs.Diary.{Diary, ingressRecord, writtenRecord, Agrees}
@@ -43,7 +45,8 @@ use Rattle.promises.proofs.AcceptedLaws.{settle-ok}
 use Rattle.promises.proofs.AcceptedHolds.{ingress-exactly, write-exactly}
 use Rattle.promises.proofs.StagedLaws.{ingress-back, write-back}
 use Rattle.promises.proofs.ShownLaws.{has-page}
-use Rattle.promises.proofs.PagesHold.{all-at}
+use Rattle.promises.proofs.OutcomeHolds.{indexed-fine}
+use Rattle.promises.proofs.IndexHolds.{Kept}
 
 -- ---- the record that was staged
 
@@ -70,13 +73,20 @@ ingress-reads-back w topic payload l t e =
 
 -- ---- look-up
 
-module _ (w : World) (d : Diary) (a : Agrees w d) (sane : isFine (lentCheck (w .lent) (w .host)) ≡ true) where
+module _ (w : World) (d : Diary) (a : Agrees w d) (k : Kept w) (sane : isFine (lentCheck (w .lent) (w .host)) ≡ true) where
+  -- look-up shows what the walk shows
+  walks : (id : ℕ) → step w (LookUp id) .said ≡ Part (lookUp (take (w .host .used) (w .lent .card)) (take (w .host .weave .staged) (w .lent .staging)) (w .host .next .0) id)
+  unfolding step walkLooked
+  walks id =
+      ap Part (looked-walks (w .lent) (w .index) (w .host) (k .indexed .sound) (k .indexed .fits) id ∙ rw (indexed-fine (w .lent) (w .index) (w .host) (k .long) sane))
+
   -- an event that was kept, by its number
   pub kept-found : (i : ℕ) → i < length (d .kept) → step w (LookUp (i + 1)) .said ≡ Part (getD (d .kept) i [])
-  unfolding step looked lookUp
+  unfolding lookUp
   kept-found i h =
       let count = to-count (take (w .host .used) (w .lent .card)) 1 (w .host .next .0) (a .chained) in
-      rw (sane, lt-ltb (i + 1) (w .host .next .0) (omega (arith, count, ap length (a .kept))))
+      walks (i + 1)
+      ∙ rw (lt-ltb (i + 1) (w .host .next .0) (omega (arith, count, ap length (a .kept))))
       (ap Part (recordOf-is (take (w .host .used) (w .lent .card)) 1 (i + 1) (omega arith) ∙ rw (a .kept, minus i)))
     where
       minus : (i : ℕ) → i + 1 - 1 ≡ i
@@ -84,15 +94,30 @@ module _ (w : World) (d : Diary) (a : Agrees w d) (sane : isFine (lentCheck (w .
 
   -- an event that is staged: "a staged event already has the id it will have if committed"
   pub staged-found : (i : ℕ) → i < length (d .staged) → step w (LookUp (w .host .next .0 + i)) .said ≡ Part (getD (d .staged) i [])
-  unfolding step looked lookUp
+  unfolding lookUp
   staged-found i h =
-      rw (sane, le-ltb (w .host .next .0 + i) (w .host .next .0) (omega arith))
+      walks (w .host .next .0 + i)
+      ∙ rw (le-ltb (w .host .next .0 + i) (w .host .next .0) (omega arith))
       (ap Part (recordOf-is (take (w .host .weave .staged) (w .lent .staging)) (w .host .next .0) (w .host .next .0 + i) (omega arith) ∙ rw (a .staged, minus (w .host .next .0) i)))
     where
       minus : (n i : ℕ) → n + i - n ≡ i
       minus n i = omega arith
 
 -- ---- next
+
+-- every record that a next hands over stands in the memory, one right behind the other from out_ptr on, each with its topic and its payload as 01 stores it,
+-- its pointer moved to where its bytes now lie
+pub page-stands : (w : World) (m : List ℕ) (at : ℕ) → isRefused (step w (Next m at) .said) ≡ false
+    → HasPage (step w (Next m at) .memory) (nextArgs m at .out .ptr) (nextPart (w .lent) (w .index) (w .host) m at)
+unfolding step nextAnswer answerBy nextMemory memoryBy
+page-stands w m at e =
+    let c = settle-ok (w .host) (nextCheck (w .lent) (w .index) (w .host) m at) _ _ e in
+    let lies = next-lies (w .lent) (w .index) (w .host) m at (check-before (w .host) (nextFound (w .lent) (w .index) (w .host) m at) (nextLook (w .lent) (w .index) (w .host) m at) c) in
+    rw c
+    (has-page m (nextArgs m at .out .ptr) (nextPart (w .lent) (w .index) (w .host) m at)
+    (part-framed (w .lent) (w .index) (w .host) m at) (omega (arith, part-small (w .lent) (w .index) (w .host) m at, lies)))
+
+-- ---- read: the same of the staged events that it lists
 
 all-fit : (P : List ℕ → Type 0) (cap : ℕ) (rs : List (List ℕ)) → All P rs → All P (fit cap rs)
 unfolding fit
@@ -104,23 +129,8 @@ all-fit P cap (r ∷ rs) a = go (leb (length r) cap) (all-fit P (cap - length r)
     go false ih = tt
 
 records-framed : (s : List ℕ) (id : ℕ) → All Framed (records s id)
-records-framed s id = all-at Framed (records s id) (λ k h. good-shown (getD (records s id) k []) (id + k) (records-good s id k h))
+records-framed s id = all-at [] Framed (records s id) (λ k h. good-shown (getD (records s id) k []) (id + k) (records-good s id k h))
 
--- every record that a next hands over stands in the memory, one right behind the other from out_ptr on, each with its topic and its payload as 01 stores it,
--- its pointer moved to where its bytes now lie
-pub page-stands : (w : World) (m : List ℕ) (at : ℕ) → isRefused (step w (Next m at) .said) ≡ false
-    → HasPage (step w (Next m at) .memory) (nextArgs m at .out .ptr) (nextPart (w .lent) (w .host) m at)
-unfolding step nextAnswer nextMemory nextList
-page-stands w m at e =
-    let c = settle-ok (w .host) (nextCheck (w .lent) (w .host) m at) _ _ e in
-    let cap = nextArgs m at .out .len in
-    let list = nextList (w .lent) (w .host) (nextArgs m at .handle) in
-    rw c
-    (has-page m (nextArgs m at .out .ptr) (fit cap list)
-    (all-fit Framed cap list (listed-has Framed (mayRead (w .lent .text) (w .host .weave .turn)) (cursorOf (w .host .weave) (nextArgs m at .handle)) _ (records-framed (take (w .host .used) (w .lent .card)) 1)))
-    (omega (arith, size-fit cap list, next-lies (w .lent) (w .host) m at c)))
-
--- ---- read: the same of the staged events that it lists
 
 pub read-page-stands : (w : World) (m : List ℕ) (at : ℕ) → isRefused (step w (Read m at) .said) ≡ false
     → HasPage (step w (Read m at) .memory) (readArgs m at .out .ptr) (fit (readArgs m at .out .len) (readList (w .lent) (w .host) m at))

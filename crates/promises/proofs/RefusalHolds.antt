@@ -1,18 +1,22 @@
 -- Promise 1: what a mark does, and the bytes that read and next change. (That a refusal changes nothing else is `refused` of MovesHold.)
 -- Assumes nothing.
-use mathlib.Core.Path.{_≡_, refl, _∙_}
-use mathlib.Core.Bool.{Bool, true, false, cond}
+use mathlib.Core.Path.{_≡_, refl, sym, _∙_}
+use mathlib.Core.Bool.{Bool, true, false, cond, true≢false}
 use mathlib.Core.List.{List, [], _∷_}
 use Prim.Native.Nat.{ℕ, _+_}
+use native.Mathlib.Nat.{zero-add}
 use native.Mathlib.Omega.{arith}
-use lib.Dec.{leb}
+use borrow.Author.Tests.{eqb-true}
+use lib.Dec.{leb, eqb}
 use lib.ListN.{length}
 use Rattle.le.specs.Splice.{splice}
 use Rattle.le.proofs.SpliceLaws.{length-splice, take-splice-before, drop-splice-after}
 use Rattle.record.specs.Shown.{shownFrom}
 use Rattle.card.specs.Records.{size}
 use Rattle.card.specs.Listing.{fit, pageOf}
-use Rattle.card.specs.declared.Page.the-variants.{Short, Bytes}
+use Rattle.card.specs.Look.{Stop, AtEnd, Full, AtFault, endOf, shortOf, pageAt, pageAfter, isFault}
+use Rattle.card.specs.declared.Page.{Page}
+use Rattle.card.specs.declared.Page.the-variants.{End, Short, Bytes}
 use Rattle.card.proofs.PageLaws.{length-shownFrom}
 use Rattle.weave.specs.declared.Code.{Code}
 use Rattle.weave.specs.declared.Spoiled.the-variants.{Overspent}
@@ -25,8 +29,8 @@ use Rattle.takes.specs.Pages.{pageBytes}
 use Rattle.host.specs.declared.Host.{Host}
 use Rattle.host.specs.Hosts.{Lent, withWeave, settle}
 use Rattle.reads.specs.Reading.{readSound, readPage, readCheck, readAnswer, readMemory}
-use Rattle.reads.specs.Paging.{nextPage, nextCheck, nextAnswer, nextMemory}
-use Rattle.reads.proofs.PagingLaws.{next-sound}
+use Rattle.reads.specs.Paging.{nextFound, nextLook, nextPart, pageFound, nextPage, nextCheck, answerBy, memoryBy, nextAnswer, nextMemory}
+use Rattle.reads.proofs.PagingLaws.{check-before, check-sound}
 use Rattle.promises.specs.Refusal.{marked, OnlyThere}
 
 -- "the first -6": a further one finds the mark there, and changes nothing
@@ -57,12 +61,35 @@ page-long at cap (r ∷ t) = length-shownFrom at (fit cap (r ∷ t)) ∙ go (leb
     go true e = refl
     go false e = rw e
 
-module _ (l : Lent) (h : Host) (m : List ℕ) (a : ℕ) where
-  -- next, not refused: the bytes that it answers, from out_ptr on
-  pub next-there : isClear (nextCheck l h m a) ≡ true → OnlyThere m (nextMemory l h m a) (nextArgs m a .out .ptr) (nextAnswer l h m a .value)
-  unfolding nextMemory nextAnswer settle nextPage
-  next-there f = rw (f, next-sound l h m a f) (laid-there m (nextArgs m a .out .ptr) _ _ (page-long (nextArgs m a .out .ptr) (nextArgs m a .out .len) _))
+-- .. and so of a look whose records are sound
+stop-bytes : (e : Stop) (n : ℕ) → isFault e ≡ false → pageBytes (pageAt e n) ≡ n
+unfolding endOf shortOf
+stop-bytes AtEnd n f = some (eqb n 0) End refl refl
+  where
+    some : (b : Bool) (p : Page) → pageBytes p ≡ 0 → eqb n 0 ≡ b → pageBytes (cond b p (Bytes n)) ≡ n
+    some true p z e = z ∙ sym (eqb-true n 0 e)
+    some false p z e = refl
+stop-bytes Full n f = some (eqb n 0) Short refl refl
+  where
+    some : (b : Bool) (p : Page) → pageBytes p ≡ 0 → eqb n 0 ≡ b → pageBytes (cond b p (Bytes n)) ≡ n
+    some true p z e = z ∙ sym (eqb-true n 0 e)
+    some false p z e = refl
+stop-bytes AtFault n f = absurd (true≢false f)
 
+module _ (l : Lent) (table : List ℕ) (h : Host) (m : List ℕ) (a : ℕ) where
+  pub look-bytes : isClear (nextCheck l table h m a) ≡ true → pageBytes (nextPage l table h m a) ≡ size (nextPart l table h m a)
+  unfolding pageFound pageAfter
+  look-bytes f =
+      let k = nextLook l table h m a in
+      rw (check-before h (nextFound l table h m a) k f) (stop-bytes (k .stop) (0 + size (k .part)) (check-sound h (nextFound l table h m a) k f) ∙ zero-add (size (k .part)))
+
+  -- next, not refused: the bytes that it answers, from out_ptr on
+  pub next-there : isClear (nextCheck l table h m a) ≡ true → OnlyThere m (nextMemory l table h m a) (nextArgs m a .out .ptr) (nextAnswer l table h m a .value)
+  unfolding nextMemory memoryBy nextAnswer answerBy settle
+  next-there f =
+      rw (f, look-bytes f) (laid-there m (nextArgs m a .out .ptr) _ _ (length-shownFrom (nextArgs m a .out .ptr) (nextPart l table h m a)))
+
+module _ (l : Lent) (h : Host) (m : List ℕ) (a : ℕ) where
   pub read-there : isClear (readCheck l h m a) ≡ true → OnlyThere m (readMemory l h m a) (readArgs m a .out .ptr) (readAnswer l h m a .value)
   unfolding readMemory readAnswer settle readPage readCheck
   read-there f = rw (f, found-left (readSound l h m a) _ f) (laid-there m (readArgs m a .out .ptr) _ _ (page-long (readArgs m a .out .ptr) (readArgs m a .out .len) _))

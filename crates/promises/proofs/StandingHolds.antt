@@ -145,10 +145,10 @@ module _ (w : World) (o : Op) (js : List ℕ) (t : Holds (w .host .weave .slots)
         none = omega (arith, often-first 0 (s .handle) js, ap one new, t .none);
         free = omega (arith, stored-over (v .slots) 0 0 s there, ap one new, t .free);
       }
-  cursors-hold (Hands k room f) =
+  cursors-hold (Hands k rs f room g) =
       let there = handle-there v (t .tidy) k f in
       record {
-        tidy = cursors-tidy w o (Hands k room f) (t .tidy);
+        tidy = cursors-tidy w o (Hands k rs f room g) (t .tidy);
         each = λ j h. stored-alike (v .slots) k j _ refl there ∙ t .each j h;
         none = t .none;
         free = ap (λ (n : ℕ). n + length js) (stored-alike (v .slots) k 0 _ refl there) ∙ t .free;
@@ -193,7 +193,7 @@ module _ (w : World) (o : Op) (js : List ℕ) (t : Holds (w .host .weave .slots)
   opened-heard : (c : Cursors w o) (n : ℕ) → v .opened ≡ n → openedAfter w o c ≡ openedBy w o c n
   opened-heard Same n e = e
   opened-heard (Opens s q f) n e = handle-new v f ∙ ap (λ (i : ℕ). i + 1) e
-  opened-heard (Hands k room f) n e = e
+  opened-heard (Hands k rs f room g) n e = e
   opened-heard (Closes k f) n e = e
   opened-heard (Cleared i) n e = e
 
@@ -227,12 +227,12 @@ follows-run (o ∷ os) w s t =
     (rw (moved w o .world, moved w o .heard-as s) (follows-move w o (moved w o .move) s t))
 
 -- THE PROMISE: mounted, refused or not, and asked whatever may be asked, the box stands as it was heard, by any charge rule
-pub ruled-stands : (charge : ℕ → ℕ) (l : Lent) (used : ℕ) (os : List Op) → Stands (run (mountedUnder charge l used) os) (standing (mountedUnder charge l used) atMount os)
+pub ruled-stands : (charge : ℕ → ℕ) (l : Lent) (table : List ℕ) (used : ℕ) (os : List Op) → Stands (run (mountedUnder charge l table used) os) (standing (mountedUnder charge l table used) atMount os)
 unfolding freshWeave
-ruled-stands charge l used os =
-    let w = run (mountedUnder charge l used) os in
-    let s = standing (mountedUnder charge l used) atMount os in
-    let t = follows-run os (mountedUnder charge l used) atMount start in
+ruled-stands charge l table used os =
+    let w = run (mountedUnder charge l table used) os in
+    let s = standing (mountedUnder charge l table used) atMount os in
+    let t = follows-run os (mountedUnder charge l table used) atMount start in
     record {
       running = t .running;
       faulted = t .faulted;
@@ -242,11 +242,11 @@ ruled-stands charge l used os =
       room = room-is (w .host .weave) (s .handles) (s .opened) (t .cursors) (t .opened);
     }
   where
-    start : Follows (mountedUnder charge l used) atMount
+    start : Follows (mountedUnder charge l table used) atMount
     start = record {
-      running = rw (mount-fresh l used);
-      faulted = mount-healthy l used;
-      mark = rw (mount-fresh l used);
-      opened = rw (mount-fresh l used);
-      cursors = rw (mount-fresh l used) (holds-none 0);
+      running = rw (mount-fresh l table used);
+      faulted = mount-healthy l table used;
+      mark = rw (mount-fresh l table used);
+      opened = rw (mount-fresh l table used);
+      cursors = rw (mount-fresh l table used) (holds-none 0);
     }

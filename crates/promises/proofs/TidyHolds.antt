@@ -54,7 +54,7 @@ cursors-tidy w o Same t = t
 cursors-tidy w o (Opens s e f) t =
     let new = handle-new (w .host .weave) f in
     rw new (tidy-opened (w .host .weave .slots) (w .host .weave .opened) t (slotPlace (hasHandle 0) (w .host .weave .slots)) s (rw new at e))
-cursors-tidy w o (Hands k room f) t =
+cursors-tidy w o (Hands k rs f room g) t =
     tidy-moved (w .host .weave .slots) (w .host .weave .opened) t k _ refl (handle-there (w .host .weave) t k f)
 cursors-tidy w o (Closes k f) t = tidy-free (w .host .weave .slots) (w .host .weave .opened) t (slotPlace (hasHandle k) (w .host .weave .slots))
 cursors-tidy w o (Cleared i) t = tidy-none (w .host .weave .opened)
@@ -71,6 +71,6 @@ pub tidy-run : (os : List Op) (w : World) → TidyIn w → TidyIn (run w os)
 tidy-run [] w t = t
 tidy-run (o ∷ os) w t = tidy-run os (step w o .world) (rw (moved w o .world) (tidy-move w o (moved w o .move) t))
 
-pub life-tidy : (l : Lent) (used : ℕ) (os : List Op) → TidyIn (run (mountedAs l used) os)
+pub life-tidy : (l : Lent) (table : List ℕ) (used : ℕ) (os : List Op) → TidyIn (run (mountedAs l table used) os)
 unfolding freshWeave
-life-tidy l used os = tidy-run os (mountedAs l used) (rw (mount-fresh l used) (tidy-none 0))
+life-tidy l table used os = tidy-run os (mountedAs l table used) (rw (mount-fresh l table used) (tidy-none 0))

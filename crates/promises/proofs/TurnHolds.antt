@@ -16,10 +16,11 @@ use Rattle.weave.specs.Checks.{handleFine}
 use Rattle.weave.specs.Table.{freeSlot, hasHandle, slotPlace}
 use Rattle.weave.specs.Moves.{cursorOf}
 use Rattle.reads.specs.Paging.{nextList}
-use Rattle.promises.specs.Box.{World, Op, step, run}
+use Rattle.promises.specs.Box.{World, Indexed, Op, step, run}
 use Rattle.promises.specs.Turn.{InTurn, givenBy, handedOver}
 use Rattle.promises.proofs.MoveLaws.{Cursors, Same, Opens, Hands, Closes, Cleared, Turning, Stays, Turns, Move, Rests, Begins, GoesOn, Commits, Discards, openedAfter, slotsAfter, turnAfter, after, handedOn, handedBy}
 use Rattle.promises.proofs.MovesHold.{moved}
+use Rattle.promises.proofs.IndexHolds.{turn-indexed}
 use Rattle.promises.proofs.SlotLaws.{place-passes}
 use Rattle.promises.proofs.TurnLaws.{other-handle, handle-is, free-handle, tidy-free, tidy-moved, tidy-opened, Followed, append-nil, follow-still, follow-other, follow-own, follow-shut}
 use Rattle.promises.proofs.TidyHolds.{handle-new, handle-there}
@@ -28,7 +29,7 @@ abbrev pub FollowedIn : World → ℕ → List (List ℕ) → List (List ℕ) �
 FollowedIn w k whole out =
     Followed (w .host .weave .running) (w .lent .text) (w .host .weave .turn) (w .host .used) (w .lent .card) (w .host .weave .slots) (w .host .weave .opened) k whole out
 
-module _ (w : World) (k : ℕ) (whole out : List (List ℕ)) (f : FollowedIn w k whole out) where
+module _ (w : World) (x : Indexed w) (k : ℕ) (whole out : List (List ℕ)) (f : FollowedIn w k whole out) where
   abbrev slots′ : List Slot
   slots′ = w .host .weave .slots
 
@@ -53,11 +54,10 @@ module _ (w : World) (k : ℕ) (whole out : List (List ℕ)) (f : FollowedIn w k
     there : place < length slots′
     there = handle-there (w .host .weave) (f .tidy) j e
 
-    hands-followed : (n : ℕ)
-        → FollowedBy (set slots′ place (record { handle = j; cursor = advance (cursorOf (w .host .weave) j) (fit n (nextList (w .lent) (w .host) j)) })) (w .host .weave .opened)
-        (out ++ cond (eqb j k) (fit n (nextList (w .lent) (w .host) j)) [])
+    hands-followed : (rs : List (List ℕ)) (n : ℕ) → (Indexed w → rs ≡ fit n (nextList (w .lent) (w .host) j))
+        → FollowedBy (set slots′ place (record { handle = j; cursor = advance (cursorOf (w .host .weave) j) rs })) (w .host .weave .opened) (out ++ cond (eqb j k) rs [])
     unfolding cursorOf nextList
-    hands-followed n = go (tested (eqb j k))
+    hands-followed rs n walks = rw (walks x) (go (tested (eqb j k)))
       where
         go : Tested (eqb j k)
             → FollowedBy (set slots′ place (record { handle = j; cursor = advance (cursorOf (w .host .weave) j) (fit n (nextList (w .lent) (w .host) j)) })) (w .host .weave .opened)
@@ -85,7 +85,7 @@ module _ (w : World) (k : ℕ) (whole out : List (List ℕ)) (f : FollowedIn w k
       rw (new, append-nil out)
       (follow-other _ _ _ _ _ _ _ k whole out f (slotPlace (hasHandle 0) slots′) s (w .host .weave .opened + 1) (other-handle k s (λ q. omega (arith, f .most)))
       (not-k 0 (λ q. omega (arith, f .least))) (tidy-opened slots′ (w .host .weave .opened) (f .tidy) (slotPlace (hasHandle 0) slots′) s is) (omega (arith, f .most)))
-  cursors-followed o (Hands j n e) i = hands-followed j e n
+  cursors-followed o (Hands j rs e n walks) i = hands-followed j e rs n walks
   cursors-followed o (Closes j e) i = closes-followed j e
   cursors-followed o (Cleared never) i = absurd (never i)
 
@@ -104,8 +104,12 @@ module _ (w : World) (k : ℕ) (whole out : List (List ℕ)) (f : FollowedIn w k
   follow-step o i = rw (moved w o .world, moved w o .given k) (follow-move o (moved w o .move) i)
 
 -- whatever else is called
-pub follow-run : (os : List Op) (w : World) (k : ℕ) (whole out : List (List ℕ)) → All InTurn os → FollowedIn w k whole out → FollowedIn (run w os) k whole (out ++ handedOver k w os)
-follow-run [] w k whole out i f = rw (append-nil out) f
-follow-run (o ∷ os) w k whole out i f =
+pub follow-run : (os : List Op) (w : World) → Indexed w → (k : ℕ) (whole out : List (List ℕ)) → All InTurn os → FollowedIn w k whole out → FollowedIn (run w os) k whole (out ++ handedOver k w os)
+follow-run [] w x k whole out i f = rw (append-nil out) f
+follow-run (o ∷ os) w x k whole out i f =
     rw (← append-assoc out (givenBy k w o) (handedOver k (step w o .world) os))
-    (follow-run os (step w o .world) k whole (out ++ givenBy k w o) (i .1) (follow-step w k whole out f o (i .0)))
+    (follow-run os (step w o .world) (turn-indexed w o (i .0) x) k whole (out ++ givenBy k w o) (i .1) (follow-step w x k whole out f o (i .0)))
+
+pub run-indexed : (os : List Op) (w : World) → Indexed w → All InTurn os → Indexed (run w os)
+run-indexed [] w x i = x
+run-indexed (o ∷ os) w x i = run-indexed os (step w o .world) (turn-indexed w o (i .0) x) (i .1)

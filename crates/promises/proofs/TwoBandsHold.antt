@@ -15,22 +15,23 @@ use Rattle.host.specs.Hosts.{withWeave, turnedAway, settle}
 use Rattle.host.specs.Cursors.{openNext, openAnswer, closeNext, closeAnswer}
 use Rattle.writes.specs.Stage.{isPanic, panicked, written, writeAnswer}
 use Rattle.reads.specs.Reading.{readAnswer}
-use Rattle.reads.specs.Paging.{nextHost, nextAnswer}
+use Rattle.reads.specs.Paging.{answerBy, nextHost, nextAnswer}
 use Rattle.promises.specs.Box.{World, cardRecords, stagedRecords, Op, Begin, Ingress, Write, Read, Open, Next, Close, Return, LookUp, Step, step}
 use Rattle.promises.specs.Fields.{isModuleCall}
 use Rattle.promises.specs.Outcome.{saysCommitted}
 use Rattle.promises.specs.TwoBands.{Beside, CardsAlike, Alike, Call, ToWrite, ToRead, ToOpen, ToNext, ToClose, asked, afterCalls, Heard, heardOf, playedBy, SameTurn}
 use Rattle.promises.specs.SideBySide.{KeepsTo, AllKeepTo, Together}
-use Rattle.promises.proofs.CardHolds.{only-commit, long-kept, said-appends, appended-records}
+use Rattle.promises.proofs.IndexHolds.{same-indexed, appended-indexed}
+use Rattle.promises.proofs.CardHolds.{index-kept, only-commit, long-kept, said-appends, appended-records}
 use Rattle.promises.proofs.TwoBandsLaws.{stepWith, step-same, is-with}
 
 -- ---- one call
 
 module _ (listeners : ℕ → Type 0) (w₁ w₂ : World) (b : Beside w₁ w₂) (alike : (k : ℕ) → listeners k → CardsAlike k w₁ w₂) (o : Op) (keeps : KeepsTo listeners w₁ o) where
-  same-step : step w₂ o ≡ stepWith (step w₁ o) (step w₂ o .world .lent .card)
+  same-step : step w₂ o ≡ stepWith (step w₁ o) (step w₂ o .world .lent .card) (step w₂ o .world .index)
   same-step =
-      subst (λ (w : World). ((k : ℕ) → listeners k → CardsAlike k w₁ w) → step w o ≡ stepWith (step w₁ o) (step w o .world .lent .card)) (is-with w₁ w₂ b)
-      (λ c. step-same w₁ (w₂ .lent .card) (b .card-length) listeners c o keeps) alike
+      subst (λ (w : World). ((k : ℕ) → listeners k → CardsAlike k w₁ w) → step w o ≡ stepWith (step w₁ o) (step w o .world .lent .card) (step w o .world .index)) (is-with w₁ w₂ b)
+      (λ c. step-same w₁ (w₂ .lent .card) (w₂ .index) (b .card-length) (b .index-length) listeners c o keeps) alike
 
   heard-same : heardOf w₁ o ≡ heardOf w₂ o
   heard-same = sym (ap (λ (s : Step). record { said = s .said; field = s .field; memory = s .memory }) same-step)
@@ -40,6 +41,7 @@ module _ (listeners : ℕ → Type 0) (w₁ w₂ : World) (b : Beside w₁ w₂)
     text = sym (ap (λ (s : Step). s .world .lent .text) same-step);
     staging = sym (ap (λ (s : Step). s .world .lent .staging) same-step);
     card-length = long-kept w₁ o ∙ b .card-length ∙ sym (long-kept w₂ o);
+    index-length = index-kept w₁ o ∙ b .index-length ∙ sym (index-kept w₂ o);
     charge = sym (ap (λ (s : Step). s .world .charge) same-step);
     state = sym (ap (λ (s : Step). s .world .host) same-step);
   }
@@ -62,18 +64,18 @@ module _ (listeners : ℕ → Type 0) (w₁ w₂ : World) (b : Beside w₁ w₂)
           let s₁ = only-commit w₁ o none in
           let s₂ = only-commit w₂ o (too false none) in
           record {
-            sound₁ = rw (s₁ .card, s₁ .used, s₁ .next) (c .sound₁);
-            sound₂ = rw (s₂ .card, s₂ .used, s₂ .next) (c .sound₂);
+            sound₁ = same-indexed w₁ (step w₁ o .world) s₁ (c .sound₁);
+            sound₂ = same-indexed w₂ (step w₂ o .world) s₂ (c .sound₂);
             agree = rw (s₁ .text, s₁ .card, s₁ .used, s₂ .card, s₂ .used) (c .agree);
           }
       go true said =
           let a₁ = said-appends w₁ o said in
           let a₂ = said-appends w₂ o (too true said) in
-          let r₁ = appended-records w₁ (step w₁ o .world) (a₁ .0) (c .sound₁) (a₁ .1) in
-          let r₂ = appended-records w₂ (step w₂ o .world) (a₂ .0) (c .sound₂) (a₂ .1) in
+          let r₁ = appended-records w₁ (step w₁ o .world) (a₁ .0) (c .sound₁ .sound) (a₁ .1 .1 .sound) in
+          let r₂ = appended-records w₂ (step w₂ o .world) (a₂ .0) (c .sound₂ .sound) (a₂ .1 .1 .sound) in
           record {
-            sound₁ = r₁ .0;
-            sound₂ = r₂ .0;
+            sound₁ = appended-indexed w₁ (step w₁ o .world) (a₁ .0) (a₁ .1) (c .sound₁);
+            sound₂ = appended-indexed w₂ (step w₂ o .world) (a₂ .0) (a₂ .1) (c .sound₂);
             agree = λ r y.
                 let e = c .agree r (rw (a₁ .0 .text) at y) in
                 rw (r₁ .1, r₂ .1, staged-same) (among r (cardRecords w₁) (cardRecords w₂) (stagedRecords w₁) e, among r (cardRecords w₂) (cardRecords w₁) (stagedRecords w₁) (e .1, e .0));
@@ -133,7 +135,7 @@ record InItsTurn (w : World) (o : Op) : Type 0 where
   keeps : KeepsTo (λ (k : ℕ). k ≡ w .host .weave .turn) w o
 
 stays-in-turn : (w : World) (c : Call) → InItsTurn w (asked c)
-unfolding step writeAnswer readAnswer openAnswer nextAnswer closeAnswer withWeave paid openNext openedWith nextHost movedTo closeNext closedAt tabled
+unfolding step writeAnswer readAnswer openAnswer nextAnswer answerBy closeAnswer withWeave paid openNext openedWith nextHost movedTo closeNext closedAt tabled
 stays-in-turn w (ToWrite m a) = record { turn = settle-turn (w .host) _ _ _ (written-turn (w .host) (isPanic m a) _ _ _ _); keeps = tt }
 stays-in-turn w (ToRead m a) = record { turn = settle-turn (w .host) _ _ _ refl; keeps = tt }
 stays-in-turn w (ToOpen m a) = record { turn = settle-turn (w .host) _ _ _ refl; keeps = tt }

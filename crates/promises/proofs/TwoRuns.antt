@@ -43,20 +43,22 @@ use Rattle.takes.specs.Payloads.{payloadBytes}
 use Rattle.takes.specs.Begun.{argAt, begun}
 use Rattle.takes.specs.Pages.{pageCharge}
 use Rattle.takes.specs.Opening.{opening}
-use Rattle.host.specs.Hosts.{Lent, lentAs, withWeave, lentCheck, settle}
+use Rattle.host.specs.Hosts.{Lent, lentAs, withWeave, cardCount, settle}
 use Rattle.host.specs.Begin.{beginCheck, beginAnswer, beginStaging}
 use Rattle.host.specs.Hosts.{freshHost}
 use Rattle.mounts.specs.Mount.{mounted}
 use Rattle.writes.specs.Stage.{roomFine, headerFor, writtenTopic, dataLen, writeCharge, written, writeCheck, writeAnswer, writeStaging}
 use Rattle.host.specs.declared.Fate.the-variants.{Running, Committed}
 use Rattle.reads.specs.Reading.{readSound, readList, readPage, readCheck, readAnswer}
-use Rattle.reads.specs.Paging.{nextSound, nextList, nextPage, nextCheck, nextCursor, nextHost, nextAnswer}
+use Rattle.reads.specs.Paging.{nextFound, nextLook, nextList, nextPage, nextCheck, nextHost, cursorBy, answerBy, nextAnswer}
+use Rattle.reads.proofs.PagingLaws.{check-before}
+use Rattle.card.specs.Index.{entered}
 use Rattle.host.specs.Cursors.{openCheck, openNext, openAnswer, closeCheck, closeNext, closeAnswer}
-use Rattle.host.specs.Ending.{committed, finished, returnAnswer, returnCard, returnStaging}
-use Rattle.promises.specs.Box.{World, recordsOn, cardRecords, Begin, Write, Read, Open, Next, Close, Return, Answered, Ended, boxOf, step, isRefused, mountedAs}
+use Rattle.host.specs.Ending.{committed, finished, returnAnswer, returnCard, returnIndex, returnStaging}
+use Rattle.promises.specs.Box.{World, recordsOn, cardRecords, stagedRecords, Begin, Write, Read, Open, Next, Close, Return, Answered, Ended, boxOf, step, isRefused, mountedAs}
 use Rattle.promises.specs.Accepted.{WriteMay, ReadMay, OpenMay, NextMay, CloseMay}
 use Rattle.promises.specs.Outcome.{Conditions, nextTurn}
-use Rattle.promises.specs.Diary.{Diary, writtenRecord, firstPage}
+use Rattle.promises.specs.Diary.{Diary, writtenRecord, noted, firstPage}
 use Rattle.promises.specs.Turn.{listLeft, Allowed}
 use Rattle.promises.specs.TwoWeaves.{saidOver, twoModules, hundred, memory, theCalls, theAnswers}
 use Rattle.promises.proofs.AcceptedLaws.{settle-ok}
@@ -66,25 +68,30 @@ use Rattle.promises.proofs.AcceptedHolds.{begin-exactly, write-exactly,
 use Rattle.promises.proofs.AskedHolds.{asked-by}
 use Rattle.promises.proofs.ReadBackHolds.{write-reads-back}
 use Rattle.promises.proofs.ListHolds.{means-listed}
-use Rattle.promises.proofs.RunLaws.{no-bytes, long, At, one-more, emptyBox, mount-ok, mount-host, at-first}
+use Rattle.promises.proofs.RunLaws.{no-bytes, long, At, one-more, emptyBox, mount-ok, mount-host, mount-table, at-first}
+use Rattle.promises.proofs.MovesHold.{next-hands}
+use Rattle.promises.proofs.PagesHold.{page-is, look-sound}
 use Rattle.promises.proofs.TwoLaws.{long-memory, said-good, said-first, said-two, may-write, may-read, topic-is, write-args, read-args, open-args, next-args, close-arg, records-fine, topic-fine, filter-fine, out-fine, no-panic, data-fine, len-fine, raw, memory-bytes, topic-long, data-none, topic-read}
 
 one-listed : (p : List ℕ → Bool) (d : Bool) (k : ℕ) (r : List ℕ) → d ≡ false → k ≡ 9 → p r ≡ true → take k (only p (inOrder d (r ∷ []))) ≡ r ∷ []
 unfolding only inOrder
 one-listed p d k r x y z = rw (x, y, z)
 
-module _ (n c : ℕ) (n-least : 65536 ≤ n) (n-most : n ≤ 1048576) (c-least : 136 ≤ c) (c-most : c ≤ 16777216) where
+module _ (n c t : ℕ) (n-least : 65536 ≤ n) (n-most : n ≤ 1048576) (c-least : 136 ≤ c) (c-most : c ≤ 16777216) (t-least : 1 ≤ t) where
   abbrev l : Lent
   l = lentAs (zeros n) (zeros c) twoModules
 
-  fine : mounted l 0 .code ≡ Fine
-  fine = mount-ok n c twoModules n-least n-most c-most said-good
+  abbrev table : List ℕ
+  table = zeros t
+
+  fine : mounted l table 0 .code ≡ Fine
+  fine = mount-ok n c t twoModules n-least n-most c-most said-good
 
   abbrev w₀ : World
-  w₀ = emptyBox n c twoModules
+  w₀ = emptyBox n c t twoModules
 
-  at₀ : At l [] w₀ (firstPage l 0)
-  at₀ = at-first n c twoModules n-least n-most c-most said-good
+  at₀ : At l table [] w₀ (firstPage l 0)
+  at₀ = at-first n c t twoModules n-least n-most c-most said-good
 
   -- ---- begin
 
@@ -97,7 +104,7 @@ module _ (n c : ℕ) (n-least : 65536 ≤ n) (n-most : n ≤ 1048576) (c-least :
   f₀ = settle-ok (w₀ .host) _ 0 _ e₀
 
   abbrev w₁ : World
-  w₁ = boxOf (withWeave (w₀ .host) (begun hundred)) (lentAs (zeros (length (zeros n))) (zeros c) twoModules)
+  w₁ = boxOf (withWeave (w₀ .host) (begun hundred)) (lentAs (zeros (length (zeros n))) (zeros c) twoModules) table
 
   s₀ : step w₀ (Begin hundred) .said ≡ Answered Fine 0
   unfolding step beginAnswer settle
@@ -110,8 +117,8 @@ module _ (n c : ℕ) (n-least : 65536 ≤ n) (n-most : n ≤ 1048576) (c-least :
   abbrev d₁ : Diary
   d₁ = record { kept = recordsOn (zeros c) 0; staged = []; units = 0 }
 
-  at₁ : At l (take 1 theCalls) w₁ d₁
-  at₁ = one-more l fine [] w₀ (firstPage l 0) at₀ (Begin hundred) no-bytes e₀ w₁ q₀
+  at₁ : At l table (take 1 theCalls) w₁ d₁
+  at₁ = one-more l table fine [] w₀ (firstPage l 0) at₀ (Begin hundred) no-bytes e₀ w₁ q₀
 
   staging₁ : length (w₁ .lent .staging) ≡ n
   staging₁ = long (length (zeros n)) ∙ long n
@@ -150,7 +157,7 @@ module _ (n c : ℕ) (n-least : 65536 ≤ n) (n-most : n ≤ 1048576) (c-least :
   abbrev w₂ : World
   w₂ =
       boxOf (withWeave (w₁ .host) (holding (paid (w₁ .host .weave) (writeCharge (w₁ .charge) memory 8)) bytes₂ (length (w₁ .lent .staging))))
-      (lentAs (splice (w₁ .lent .staging) (w₁ .host .weave .staged) event) (zeros c) twoModules)
+      (lentAs (splice (w₁ .lent .staging) (w₁ .host .weave .staged) event) (zeros c) twoModules) table
 
   s₁ : step w₁ (Write memory 8) .said ≡ Answered Fine 0
   unfolding step writeAnswer settle
@@ -184,8 +191,8 @@ module _ (n c : ℕ) (n-least : 65536 ≤ n) (n-most : n ≤ 1048576) (c-least :
   abbrev d₂ : Diary
   d₂ = record { kept = recordsOn (zeros c) 0; staged = event ∷ []; units = 0 + w₁ .charge (length event) }
 
-  at₂ : At l (take 2 theCalls) w₂ d₂
-  at₂ = rw no-panic at (one-more l fine (take 1 theCalls) w₁ d₁ at₁ (Write memory 8) memory-bytes e₁ w₂ q₁)
+  at₂ : At l table (take 2 theCalls) w₂ d₂
+  at₂ = rw no-panic at (one-more l table fine (take 1 theCalls) w₁ d₁ at₁ (Write memory 8) memory-bytes e₁ w₂ q₁)
 
   staged₂ : w₂ .host .weave .staged ≡ 136
   unfolding withWeave holding paid begun begunWeave
@@ -201,13 +208,13 @@ module _ (n c : ℕ) (n-least : 65536 ≤ n) (n-most : n ≤ 1048576) (c-least :
   unfolding withWeave holding paid begun begunWeave
   s₂ =
       running-exactly w₂ (pos 0) .1
-      (record { returns = record { check-1 = at₂ .check-1; running = refl }; unspoiled = refl; zero-or-one = inl refl }, rw said-two (omega arith))
+      (record { returns = record { table-long = at₂ .kept .long; check-1 = at₂ .check-1; running = refl }; unspoiled = refl; zero-or-one = inl refl }, rw said-two (omega arith))
 
   abbrev w₃ : World
-  w₃ = boxOf (withWeave (w₂ .host) (nextTurn (w₂ .host .weave))) (w₂ .lent)
+  w₃ = boxOf (withWeave (w₂ .host) (nextTurn (w₂ .host .weave))) (w₂ .lent) (w₂ .index)
 
-  at₃ : At l (take 3 theCalls) w₃ d₂
-  at₃ = rw s₂ at (one-more l fine (take 2 theCalls) w₂ d₂ at₂ (Return (pos 0)) no-bytes (ap isRefused s₂) w₃ (turn-passes w₂ (pos 0) s₂))
+  at₃ : At l table (take 3 theCalls) w₃ d₂
+  at₃ = rw s₂ at (one-more l table fine (take 2 theCalls) w₂ d₂ at₂ (Return (pos 0)) no-bytes (ap isRefused s₂) w₃ (turn-passes w₂ (pos 0) s₂))
 
   -- ---- module 2 reads it
 
@@ -240,7 +247,7 @@ module _ (n c : ℕ) (n-least : 65536 ≤ n) (n-most : n ≤ 1048576) (c-least :
   f₃ = settle-ok (w₃ .host) _ _ _ e₃
 
   abbrev w₄ : World
-  w₄ = boxOf (withWeave (w₃ .host) (paid (w₃ .host .weave) (pageCharge (readPage (w₃ .lent) (w₃ .host) memory 48)))) (w₃ .lent)
+  w₄ = boxOf (withWeave (w₃ .host) (paid (w₃ .host .weave) (pageCharge (readPage (w₃ .lent) (w₃ .host) memory 48)))) (w₃ .lent) (w₃ .index)
 
   q₃ : step w₃ (Read memory 48) .world ≡ w₄
   unfolding step readAnswer settle
@@ -253,14 +260,15 @@ module _ (n c : ℕ) (n-least : 65536 ≤ n) (n-most : n ≤ 1048576) (c-least :
   abbrev d₄ : Diary
   d₄ = record { kept = recordsOn (zeros c) 0; staged = event ∷ []; units = (0 + w₁ .charge (length event)) + (1 + 136 / 8) }
 
-  at₄ : At l (take 4 theCalls) w₄ d₄
-  at₄ = rw s₃ at (one-more l fine (take 3 theCalls) w₃ d₂ at₃ (Read memory 48) memory-bytes e₃ w₄ q₃)
+  at₄ : At l table (take 4 theCalls) w₄ d₄
+  at₄ = rw s₃ at (one-more l table fine (take 3 theCalls) w₃ d₂ at₃ (Read memory 48) memory-bytes e₃ w₄ q₃)
 
   -- ---- module 2 returns, and all is committed
 
-  meets₄ : Conditions (w₄ .lent) (w₄ .host) (pos 0)
+  meets₄ : Conditions (w₄ .lent) (w₄ .index) (w₄ .host) (pos 0)
   unfolding withWeave holding paid begun begunWeave freshHost
   meets₄ = record {
+    table-long = at₄ .kept .long;
     check-1 = at₄ .check-1;
     running = refl;
     unspoiled = refl;
@@ -268,6 +276,7 @@ module _ (n c : ℕ) (n-least : 65536 ≤ n) (n-most : n ≤ 1048576) (c-least :
     last = sym said-two;
     sound = at₄ .agrees .carried;
     fits = omega (arith, staged₂, long c);
+    entries = omega (arith, count₂, long t);
   }
 
   s₄ : step w₄ (Return (pos 0)) .said ≡ Ended (Committed 1 136)
@@ -278,16 +287,17 @@ module _ (n c : ℕ) (n-least : 65536 ≤ n) (n-most : n ≤ 1048576) (c-least :
   w₅ =
       boxOf (committed (w₄ .host) (w₄ .host .weave .count) (w₄ .host .weave .staged))
       (lentAs (zeros (length (w₄ .lent .staging))) (splice (zeros c) (w₄ .host .used) (take (w₄ .host .weave .staged) (w₄ .lent .staging))) twoModules)
+      (entered table (cardCount (w₄ .host)) (w₄ .host .used) (stagedRecords w₄))
 
   q₄ : step w₄ (Return (pos 0)) .world ≡ w₅
-  unfolding step returnAnswer returnCard returnStaging finished
-  q₄ = rw (commits (w₄ .lent) (w₄ .host) (pos 0) meets₄)
+  unfolding step returnAnswer returnCard returnIndex returnStaging finished
+  q₄ = rw (commits (w₄ .lent) (w₄ .index) (w₄ .host) (pos 0) meets₄)
 
   abbrev d₅ : Diary
   d₅ = record { kept = recordsOn (zeros c) 0 ++ (event ∷ []); staged = []; units = 0 }
 
-  at₅ : At l (take 5 theCalls) w₅ d₅
-  at₅ = rw s₄ at (one-more l fine (take 4 theCalls) w₄ d₄ at₄ (Return (pos 0)) no-bytes (ap isRefused s₄) w₅ q₄)
+  at₅ : At l table (take 5 theCalls) w₅ d₅
+  at₅ = rw s₄ at (one-more l table fine (take 4 theCalls) w₄ d₄ at₄ (Return (pos 0)) no-bytes (ap isRefused s₄) w₅ q₄)
 
   -- ---- the next weave begins
 
@@ -300,7 +310,7 @@ module _ (n c : ℕ) (n-least : 65536 ≤ n) (n-most : n ≤ 1048576) (c-least :
   f₅ = settle-ok (w₅ .host) _ 0 _ e₅
 
   abbrev w₆ : World
-  w₆ = boxOf (withWeave (w₅ .host) (begun hundred)) (lentAs (zeros (length (w₅ .lent .staging))) (w₅ .lent .card) twoModules)
+  w₆ = boxOf (withWeave (w₅ .host) (begun hundred)) (lentAs (zeros (length (w₅ .lent .staging))) (w₅ .lent .card) twoModules) (w₅ .index)
 
   s₅ : step w₅ (Begin hundred) .said ≡ Answered Fine 0
   unfolding step beginAnswer settle
@@ -310,8 +320,8 @@ module _ (n c : ℕ) (n-least : 65536 ≤ n) (n-most : n ≤ 1048576) (c-least :
   unfolding step beginAnswer beginStaging settle
   q₅ = rw f₅
 
-  at₆ : At l (take 6 theCalls) w₆ d₅
-  at₆ = one-more l fine (take 5 theCalls) w₅ d₅ at₅ (Begin hundred) no-bytes e₅ w₆ q₅
+  at₆ : At l table (take 6 theCalls) w₆ d₅
+  at₆ = one-more l table fine (take 5 theCalls) w₅ d₅ at₅ (Begin hundred) no-bytes e₅ w₆ q₅
 
   -- ---- a cursor is opened
 
@@ -337,7 +347,7 @@ module _ (n c : ℕ) (n-least : 65536 ≤ n) (n-most : n ≤ 1048576) (c-least :
   slot₆ = opening memory (openArgs memory 88) 1
 
   abbrev w₇ : World
-  w₇ = boxOf (withWeave (w₆ .host) (openedWith (w₆ .host .weave) slot₆)) (w₆ .lent)
+  w₇ = boxOf (withWeave (w₆ .host) (openedWith (w₆ .host .weave) slot₆)) (w₆ .lent) (w₆ .index)
 
   s₆ : step w₆ (Open memory 88) .said ≡ Answered Fine 1
   unfolding step openAnswer settle withWeave begun begunWeave added
@@ -350,8 +360,8 @@ module _ (n c : ℕ) (n-least : 65536 ≤ n) (n-most : n ≤ 1048576) (c-least :
   abbrev d₇ : Diary
   d₇ = record { kept = recordsOn (zeros c) 0 ++ (event ∷ []); staged = []; units = 0 + 1 }
 
-  at₇ : At l (take 7 theCalls) w₇ d₇
-  at₇ = one-more l fine (take 6 theCalls) w₆ d₅ at₆ (Open memory 88) memory-bytes e₆ w₇ q₆
+  at₇ : At l table (take 7 theCalls) w₇ d₇
+  at₇ = one-more l table fine (take 6 theCalls) w₆ d₅ at₆ (Open memory 88) memory-bytes e₆ w₇ q₆
 
   -- what is on the card
   card₇ : cardRecords w₇ ≡ event ∷ []
@@ -386,34 +396,37 @@ module _ (n c : ℕ) (n-least : 65536 ≤ n) (n-most : n ≤ 1048576) (c-least :
 
   -- ---- the event is handed over
 
-  may₇ : NextMay (w₇ .lent) (w₇ .host) memory 136
+  may₇ : NextMay (w₇ .lent) (w₇ .index) (w₇ .host) memory 136
   unfolding withWeave openedWith tabled paid begun begunWeave argAt leAt added handleFine slotPlace hasHandle noSlots freeSlot opening
   may₇ = record {
+    table-long = at₇ .kept .long;
     gated = record { memory = rw long-memory (omega arith); check-1 = at₇ .check-1; running = refl; unspoiled = refl };
     args = records-fine .1 .1 .1 .0;
     out = rw next-args out-fine;
     handle = rw next-args;
-    sound = at₇ .agrees .chained;
-    room = rw (next-args, list₇, page₃);
-    budget = rw (next-args, list₇, page₃) (omega arith);
+    sound = look-sound w₇ (at₇ .kept .indexed) memory 136;
+    room = rw (page-is w₇ (at₇ .kept .indexed) memory 136, next-args, list₇, page₃);
+    budget = rw (page-is w₇ (at₇ .kept .indexed) memory 136, next-args, list₇, page₃) (omega arith);
   }
 
   e₇ : isRefused (step w₇ (Next memory 136) .said) ≡ false
   e₇ = next-exactly w₇ memory 136 .1 may₇
 
-  f₇ : isClear (nextCheck (w₇ .lent) (w₇ .host) memory 136) ≡ true
-  unfolding step nextAnswer
+  f₇ : isClear (nextCheck (w₇ .lent) (w₇ .index) (w₇ .host) memory 136) ≡ true
+  unfolding step nextAnswer answerBy
   f₇ = settle-ok (w₇ .host) _ _ _ e₇
 
   abbrev cursor₈ : Cursor
   cursor₈ = advance cursor₆ (event ∷ [])
 
   abbrev w₈ : World
-  w₈ = boxOf (withWeave (w₇ .host) (movedTo (w₇ .host .weave) 1 cursor₈ 18)) (w₇ .lent)
+  w₈ = boxOf (withWeave (w₇ .host) (movedTo (w₇ .host .weave) 1 cursor₈ 18)) (w₇ .lent) (w₇ .index)
 
-  page₇ : nextPage (w₇ .lent) (w₇ .host) memory 136 ≡ Sized 136
-  unfolding nextCheck
-  page₇ = next-page w₇ memory 136 (found-left (nextSound (w₇ .lent) (w₇ .host) memory 136) _ f₇) ∙ rw (next-args, list₇) page₃
+  before₇ : isClear (nextCheck (w₇ .lent) (w₇ .index) (w₇ .host) memory 136) ≡ true → isClear (nextFound (w₇ .lent) (w₇ .index) (w₇ .host) memory 136) ≡ true
+  before₇ = check-before (w₇ .host) (nextFound (w₇ .lent) (w₇ .index) (w₇ .host) memory 136) (nextLook (w₇ .lent) (w₇ .index) (w₇ .host) memory 136)
+
+  page₇ : nextPage (w₇ .lent) (w₇ .index) (w₇ .host) memory 136 ≡ Sized 136
+  page₇ = next-page w₇ memory 136 (before₇ f₇) ∙ page-is w₇ (at₇ .kept .indexed) memory 136 ∙ rw (next-args, list₇) page₃
 
   cursor₇ : cursorOf (w₇ .host .weave) 1 ≡ cursor₆
   unfolding cursorOf slotOf withWeave openedWith tabled paid begun begunWeave slotPlace hasHandle noSlots freeSlot opening
@@ -424,18 +437,18 @@ module _ (n c : ℕ) (n-least : 65536 ≤ n) (n-most : n ≤ 1048576) (c-least :
   fit₇ = rw event-long
 
   s₇ : step w₇ (Next memory 136) .said ≡ Answered Fine 136
-  unfolding step nextAnswer settle
+  unfolding step nextAnswer answerBy settle
   s₇ = rw (f₇, page₇)
 
   q₇ : step w₇ (Next memory 136) .world ≡ w₈
-  unfolding step nextAnswer settle nextHost nextCursor
-  q₇ = rw (f₇, page₇, next-args, list₇, cursor₇, fit₇)
+  unfolding step nextAnswer answerBy settle nextHost cursorBy
+  q₇ = rw (f₇, page₇, next-hands w₇ memory 136 (at₇ .kept .indexed), next-args, list₇, cursor₇, fit₇)
 
   abbrev d₈ : Diary
   d₈ = record { kept = recordsOn (zeros c) 0 ++ (event ∷ []); staged = []; units = (0 + 1) + (1 + 136 / 8) }
 
-  at₈ : At l (take 8 theCalls) w₈ d₈
-  at₈ = rw s₇ at (one-more l fine (take 7 theCalls) w₇ d₇ at₇ (Next memory 136) memory-bytes e₇ w₈ q₇)
+  at₈ : At l table (take 8 theCalls) w₈ d₈
+  at₈ = rw s₇ at (one-more l table fine (take 7 theCalls) w₇ d₇ at₇ (Next memory 136) memory-bytes e₇ w₈ q₇)
 
   -- nothing is left
   rest₈ : listOf (mayRead twoModules 1) cursor₈ (event ∷ []) ≡ []
@@ -452,45 +465,49 @@ module _ (n c : ℕ) (n-least : 65536 ≤ n) (n-most : n ≤ 1048576) (c-least :
 
   -- ---- the end is told
 
-  may₈ : NextMay (w₈ .lent) (w₈ .host) memory 136
+  may₈ : NextMay (w₈ .lent) (w₈ .index) (w₈ .host) memory 136
   unfolding withWeave openedWith movedTo tabled paid begun begunWeave argAt leAt added handleFine slotPlace hasHandle noSlots freeSlot opening pageOf
   may₈ = record {
+    table-long = at₈ .kept .long;
     gated = record { memory = rw long-memory (omega arith); check-1 = at₈ .check-1; running = refl; unspoiled = refl };
     args = records-fine .1 .1 .1 .0;
     out = rw next-args out-fine;
     handle = rw next-args;
-    sound = at₈ .agrees .chained;
-    room = rw (next-args, list₈);
-    budget = rw (next-args, list₈) (omega arith);
+    sound = look-sound w₈ (at₈ .kept .indexed) memory 136;
+    room = rw (page-is w₈ (at₈ .kept .indexed) memory 136, next-args, list₈);
+    budget = rw (page-is w₈ (at₈ .kept .indexed) memory 136, next-args, list₈) (omega arith);
   }
 
   e₈ : isRefused (step w₈ (Next memory 136) .said) ≡ false
   e₈ = next-exactly w₈ memory 136 .1 may₈
 
-  f₈ : isClear (nextCheck (w₈ .lent) (w₈ .host) memory 136) ≡ true
-  unfolding step nextAnswer
+  f₈ : isClear (nextCheck (w₈ .lent) (w₈ .index) (w₈ .host) memory 136) ≡ true
+  unfolding step nextAnswer answerBy
   f₈ = settle-ok (w₈ .host) _ _ _ e₈
 
-  page₈ : nextPage (w₈ .lent) (w₈ .host) memory 136 ≡ End
-  unfolding nextCheck pageOf
-  page₈ = next-page w₈ memory 136 (found-left (nextSound (w₈ .lent) (w₈ .host) memory 136) _ f₈) ∙ rw (next-args, list₈)
+  before₈ : isClear (nextCheck (w₈ .lent) (w₈ .index) (w₈ .host) memory 136) ≡ true → isClear (nextFound (w₈ .lent) (w₈ .index) (w₈ .host) memory 136) ≡ true
+  before₈ = check-before (w₈ .host) (nextFound (w₈ .lent) (w₈ .index) (w₈ .host) memory 136) (nextLook (w₈ .lent) (w₈ .index) (w₈ .host) memory 136)
+
+  page₈ : nextPage (w₈ .lent) (w₈ .index) (w₈ .host) memory 136 ≡ End
+  unfolding pageOf
+  page₈ = next-page w₈ memory 136 (before₈ f₈) ∙ page-is w₈ (at₈ .kept .indexed) memory 136 ∙ rw (next-args, list₈)
 
   abbrev w₉ : World
-  w₉ = boxOf (withWeave (w₈ .host) (movedTo (w₈ .host .weave) 1 cursor₈ 1)) (w₈ .lent)
+  w₉ = boxOf (withWeave (w₈ .host) (movedTo (w₈ .host .weave) 1 cursor₈ 1)) (w₈ .lent) (w₈ .index)
 
   s₈ : step w₈ (Next memory 136) .said ≡ Answered Fine 0
-  unfolding step nextAnswer settle
+  unfolding step nextAnswer answerBy settle
   s₈ = rw (f₈, page₈)
 
   q₈ : step w₈ (Next memory 136) .world ≡ w₉
-  unfolding step nextAnswer settle nextHost nextCursor fit advance
-  q₈ = rw (f₈, page₈, next-args, list₈, cursor-8)
+  unfolding step nextAnswer answerBy settle nextHost cursorBy fit advance
+  q₈ = rw (f₈, page₈, next-hands w₈ memory 136 (at₈ .kept .indexed), next-args, list₈, cursor-8)
 
   abbrev d₉ : Diary
   d₉ = record { kept = recordsOn (zeros c) 0 ++ (event ∷ []); staged = []; units = ((0 + 1) + (1 + 136 / 8)) + (1 + 0 / 8) }
 
-  at₉ : At l (take 9 theCalls) w₉ d₉
-  at₉ = rw s₈ at (one-more l fine (take 8 theCalls) w₈ d₈ at₈ (Next memory 136) memory-bytes e₈ w₉ q₈)
+  at₉ : At l table (take 9 theCalls) w₉ d₉
+  at₉ = rw s₈ at (one-more l table fine (take 8 theCalls) w₈ d₈ at₈ (Next memory 136) memory-bytes e₈ w₉ q₈)
 
   -- ---- the cursor is closed
 
@@ -511,7 +528,7 @@ module _ (n c : ℕ) (n-least : 65536 ≤ n) (n-most : n ≤ 1048576) (c-least :
   f₉ = settle-ok (w₉ .host) _ _ _ e₉
 
   abbrev w₁₀ : World
-  w₁₀ = boxOf (withWeave (w₉ .host) (closedAt (w₉ .host .weave) 1)) (w₉ .lent)
+  w₁₀ = boxOf (withWeave (w₉ .host) (closedAt (w₉ .host .weave) 1)) (w₉ .lent) (w₉ .index)
 
   s₉ : step w₉ (Close memory 160) .said ≡ Answered Fine 0
   unfolding step closeAnswer settle
@@ -521,8 +538,8 @@ module _ (n c : ℕ) (n-least : 65536 ≤ n) (n-most : n ≤ 1048576) (c-least :
   unfolding step closeAnswer closeNext settle
   q₉ = rw (f₉, close-arg)
 
-  check₁₀ : isFine (lentCheck (w₁₀ .lent) (w₁₀ .host)) ≡ true
-  check₁₀ = one-more l fine (take 9 theCalls) w₉ d₉ at₉ (Close memory 160) memory-bytes e₉ w₁₀ q₉ .check-1
+  at₁₀ : At l table (take 10 theCalls) w₁₀ (noted w₉ d₉ (Close memory 160))
+  at₁₀ = one-more l table fine (take 9 theCalls) w₉ d₉ at₉ (Close memory 160) memory-bytes e₉ w₁₀ q₉
 
   -- ---- and module 1 returns
 
@@ -530,9 +547,9 @@ module _ (n c : ℕ) (n-least : 65536 ≤ n) (n-most : n ≤ 1048576) (c-least :
   unfolding withWeave openedWith movedTo closedAt tabled paid begun begunWeave
   s₁₀ =
       running-exactly w₁₀ (pos 0) .1
-      (record { returns = record { check-1 = check₁₀; running = refl }; unspoiled = refl; zero-or-one = inl refl }, rw said-two (omega arith))
+      (record { returns = record { table-long = at₁₀ .kept .long; check-1 = at₁₀ .check-1; running = refl }; unspoiled = refl; zero-or-one = inl refl }, rw said-two (omega arith))
 
   -- THE PROMISE
-  pub all-said : saidOver (mountedAs l 0) theCalls ≡ theAnswers
+  pub all-said : saidOver (mountedAs l table 0) theCalls ≡ theAnswers
   all-said =
-      rw (mount-host n c twoModules n-least n-most c-most said-good, s₀, q₀, s₁, q₁, s₂, turn-passes w₂ (pos 0) s₂, s₃, q₃, s₄, q₄, s₅, q₅, s₆, q₆, s₇, q₇, s₈, q₈, s₉, q₉, s₁₀)
+      rw (mount-host n c t twoModules n-least n-most c-most said-good, mount-table n c t twoModules n-least n-most c-most said-good, s₀, q₀, s₁, q₁, s₂, turn-passes w₂ (pos 0) s₂, s₃, q₃, s₄, q₄, s₅, q₅, s₆, q₆, s₇, q₇, s₈, q₈, s₉, q₉, s₁₀)

@@ -76,8 +76,8 @@ idle-run [] w i = i
 idle-run (o ∷ os) w i = idle-run os (step w o .world) (rw (moved w o .world) (idle-move w o (moved w o .move) i))
 
 -- THE PROMISE: while no weave is running the state has nothing of one
-pub life-idle : (l : Lent) (used : ℕ) (os : List Op) → run (mountedAs l used) os .host .weave .running ≡ false → run (mountedAs l used) os .host .weave ≡ freshWeave
-life-idle l used os = idle-run os (mountedAs l used) (λ q. mount-fresh l used)
+pub life-idle : (l : Lent) (table : List ℕ) (used : ℕ) (os : List Op) → run (mountedAs l table used) os .host .weave .running ≡ false → run (mountedAs l table used) os .host .weave ≡ freshWeave
+life-idle l table used os = idle-run os (mountedAs l table used) (λ q. mount-fresh l table used)
 
 -- ---- its virtual time is a number of 64 bits
 
@@ -98,6 +98,6 @@ timed-run [] w b t = t
 timed-run (o ∷ os) w b t = timed-run os (step w o .world) (b .1) (rw (moved w o .world) (timed w o (b .0 .args) (moved w o .move) t))
 
 -- (What is lent holds bytes.)
-pub life-timed : (l : Lent) (used : ℕ) (os : List Op) → All LendsBytes os → run (mountedAs l used) os .host .weave .time .0 < 256 ^ 8
+pub life-timed : (l : Lent) (table : List ℕ) (used : ℕ) (os : List Op) → All LendsBytes os → run (mountedAs l table used) os .host .weave .time .0 < 256 ^ 8
 unfolding freshWeave
-life-timed l used os b = timed-run os (mountedAs l used) b (rw (mount-fresh l used) (omega arith))
+life-timed l table used os b = timed-run os (mountedAs l table used) b (rw (mount-fresh l table used) (omega arith))

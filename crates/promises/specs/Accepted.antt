@@ -11,6 +11,7 @@ use Rattle.value.specs.declared.Fault.the-variants.{Fine as NoFault}
 use Rattle.manifest.specs.Saying.{isGood, modulesSaid, manifestOf, mayRead, mayWrite}
 use Rattle.card.specs.Listing.{pageOf}
 use Rattle.card.specs.Walk.{chainTo}
+use Rattle.card.specs.Look.{isFault, pageBy}
 use Rattle.weave.specs.declared.Spoiled.the-variants.{Not}
 use Rattle.weave.specs.Codes.{isFine}
 use Rattle.weave.specs.Sums.{added}
@@ -19,11 +20,11 @@ use Rattle.weave.specs.Checks.{handleFine, slotFine}
 use Rattle.takes.specs.Payloads.{payloadChecked}
 use Rattle.takes.specs.Pages.{pageCode, pageCharge}
 use Rattle.host.specs.declared.Host.{Host}
-use Rattle.host.specs.Hosts.{Lent, lentCheck}
+use Rattle.host.specs.Hosts.{Lent, indexFine, lentCheck}
 use Rattle.writes.specs.Stage.{roomFine, isPanic, writtenTopic, dataLen, writeCharge}
 use Rattle.reads.specs.Reading.{readTopic, readList}
-use Rattle.reads.specs.Paging.{nextList}
-use Rattle.promises.specs.Box.{cardChained, stagedPart}
+use Rattle.reads.specs.Paging.{nextLook}
+use Rattle.promises.specs.Box.{stagedPart}
 
 -- check 1, but for the memory
 pub record Lawful (l : Lent) (h : Host) : Type 0 where
@@ -104,14 +105,18 @@ pub record OpenMay (l : Lent) (h : Host) (m : List ℕ) (a : ℕ) : Type 0 where
   pub room : slotFine (h .weave) ≡ true
   pub budget : h .weave .units + 1 ≤ h .weave .resmax
 
-pub record NextMay (l : Lent) (h : Host) (m : List ℕ) (a : ℕ) : Type 0 where
+-- with the table that is lent beside the card
+pub record NextMay (l : Lent) (table : List ℕ) (h : Host) (m : List ℕ) (a : ℕ) : Type 0 where
+  -- check 1: as long as at mount
+  pub table-long : indexFine table h ≡ true
   pub gated : Gated l h (length m)
   pub args : recordFine m a 24 ≡ true
   pub out : outFine m (nextArgs m a .out) ≡ true
   pub handle : handleFine (h .weave) (nextArgs m a .handle) ≡ true
-  pub sound : cardChained l h ≡ true
-  pub room : isFine (pageCode (pageOf (nextArgs m a .out .len) (nextList l h (nextArgs m a .handle)))) ≡ true
-  pub budget : h .weave .units + pageCharge (pageOf (nextArgs m a .out .len) (nextList l h (nextArgs m a .handle))) ≤ h .weave .resmax
+  -- each record that is looked at is sound and has its number
+  pub sound : isFault (nextLook l table h m a .stop) ≡ false
+  pub room : isFine (pageCode (pageBy (nextLook l table h m a))) ≡ true
+  pub budget : h .weave .units + pageCharge (pageBy (nextLook l table h m a)) ≤ h .weave .resmax
 
 pub record CloseMay (l : Lent) (h : Host) (m : List ℕ) (a : ℕ) : Type 0 where
   pub gated : Gated l h (length m)

@@ -46,9 +46,9 @@ lentWith n payload = lentAs (zeros n) (cardWith payload) bands
 abbrev pub toBandB : List Op
 toBandB = Begin hundred ∷ Ingress (98 ∷ []) [] ∷ Return (pos 0) ∷ []
 
--- the box then
+-- the box then; its table has room for three records
 abbrev pub inBandB : ℕ → List ℕ → World
-inBandB n payload = run (mountedAs (lentWith n payload) (length (cardWith payload))) toBandB
+inBandB n payload = run (mountedAs (lentWith n payload) (zeros 3) (length (cardWith payload))) toBandB
 
 -- it is band B's turn, and of the two takes on the card band B is granted its own
 pub record BandBsTurn (w : World) (payload : List ℕ) : Type 0 where

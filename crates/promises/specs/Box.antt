@@ -1,15 +1,17 @@
 -- A box over its whole life: what it is, what can be asked of it, and what each asking gives. It is made of the operations' own definitions and nothing
 -- else; `proofs/ContractsHold.antt` shows that each operation's contract is its case of `step`.
 -- Assumes nothing.
+use mathlib.Core.Path.{_≡_}
 use mathlib.Core.Bool.{Bool, true, false, not, cond}
 use mathlib.Core.List.{List, [], _∷_}
-use Prim.Native.Nat.{ℕ}
+use Prim.Native.Nat.{ℕ, _≤_}
 use lib.IntN.{ℤ, pos}
 use lib.ListN.{length, take}
 use Rattle.le.specs.Le.{Bytes}
 use Rattle.manifest.specs.Saying.{chargeOf}
 use Rattle.card.specs.Records.{records}
 use Rattle.card.specs.Walk.{chainTo}
+use Rattle.card.specs.Index.{Fits}
 use Rattle.weave.specs.declared.Code.{Code}
 use Rattle.weave.specs.declared.Code.the-variants.{Fine}
 use Rattle.weave.specs.Codes.{isFine, number}
@@ -17,26 +19,27 @@ use Rattle.host.specs.declared.Host.{Host}
 use Rattle.host.specs.declared.Answer.{Answer}
 use Rattle.host.specs.declared.Fate.{Fate}
 use Rattle.host.specs.declared.Fate.the-variants.{Refused, Discarded, Running, Committed}
-use Rattle.host.specs.Hosts.{Lent, lentAs}
+use Rattle.host.specs.Hosts.{Lent, lentAs, firstId}
 use Rattle.host.specs.Fates.{fateNumber, fateEvents, fateBytes}
 use Rattle.host.specs.Begin.{beginAnswer, beginStaging}
 use Rattle.writes.specs.Stage.{ingressAnswer, ingressStaging, writeAnswer, writeStaging}
 use Rattle.reads.specs.Reading.{readAnswer, readMemory}
 use Rattle.host.specs.Cursors.{openAnswer, closeAnswer}
 use Rattle.reads.specs.Paging.{nextAnswer, nextMemory}
-use Rattle.host.specs.Ending.{returnAnswer, returnCard, returnStaging}
-use Rattle.mounts.specs.Mount.{mounted, looked}
+use Rattle.host.specs.Ending.{returnAnswer, returnCard, returnIndex, returnStaging}
+use Rattle.mounts.specs.Mount.{mounted, mountIndex, looked}
 
--- A box between two calls: its state, the buffers it is lent, and its charge rule, from a record's length to units. Here the rule is any such function: what is
--- shown of every box is shown once for every rule.
+-- A box between two calls: its state, the buffers it is lent, the table that is lent beside the card (02, A9), and its charge rule, from a record's length to
+-- units. Here the rule is any such function: what is shown of every box is shown once for every rule.
 pub record World : Type 0 where
   pub host : Host
   pub lent : Lent
+  pub index : List ℕ
   pub charge : ℕ → ℕ
 
 -- the box that a host with these buffers is: its rule is the one that the manifest names (02, A11)
-abbrev pub boxOf : Host → Lent → World
-boxOf h l = record { host = h; lent = l; charge = chargeOf (l .text) }
+abbrev pub boxOf : Host → Lent → List ℕ → World
+boxOf h l table = record { host = h; lent = l; index = table; charge = chargeOf (l .text) }
 
 -- the records of a card of which so many bytes are used: "Ids start at 1"
 abbrev pub recordsOn : List ℕ → ℕ → List (List ℕ)
@@ -51,6 +54,16 @@ startsCard s next = chainTo s 1 next
 
 abbrev pub cardChained : Lent → Host → Bool
 cardChained l h = startsCard (take (h .used) (l .card)) (h .next .0)
+
+-- the table has the offset of each record on the card
+abbrev pub IndexFits : World → Type 0
+IndexFits w = Fits (w .index) (take (w .host .used) (w .lent .card)) (firstId (w .host))
+
+-- a card that mount takes: "card 0 to 16,777,216", and sound; and a table that fits it
+pub record Indexed (w : World) : Type 0 where
+  pub small : length (w .lent .card) ≤ 16777216
+  pub sound : cardChained (w .lent) (w .host) ≡ true
+  pub fits : IndexFits w
 
 -- the staged part, and its records: "a staged event already has the id it will have if committed"
 abbrev pub stagedPart : Lent → Host → List ℕ
@@ -89,7 +102,7 @@ answered w a staging′ memory′ =
     record {
       said = Answered (a .code) (a .value);
       field = a .field;
-      world = record { host = a .host; lent = lentAs staging′ (w .lent .card) (w .lent .text); charge = w .charge };
+      world = record { host = a .host; lent = lentAs staging′ (w .lent .card) (w .lent .text); index = w .index; charge = w .charge };
       memory = memory′;
     }
 
@@ -101,20 +114,22 @@ step w (Ingress topic payload) =
 step w (Write m a) = answered w (writeAnswer (w .charge) (w .lent) (w .host) m a) (writeStaging (w .charge) (w .lent) (w .host) m a) m
 step w (Read m a) = answered w (readAnswer (w .lent) (w .host) m a) (w .lent .staging) (readMemory (w .lent) (w .host) m a)
 step w (Open m a) = answered w (openAnswer (w .lent) (w .host) m a) (w .lent .staging) m
-step w (Next m a) = answered w (nextAnswer (w .lent) (w .host) m a) (w .lent .staging) (nextMemory (w .lent) (w .host) m a)
+step w (Next m a) =
+    answered w (nextAnswer (w .lent) (w .index) (w .host) m a) (w .lent .staging) (nextMemory (w .lent) (w .index) (w .host) m a)
 step w (Close m a) = answered w (closeAnswer (w .lent) (w .host) m a) (w .lent .staging) m
 step w (Return code) =
     record {
-      said = Ended (returnAnswer (w .lent) (w .host) code .fate);
+      said = Ended (returnAnswer (w .lent) (w .index) (w .host) code .fate);
       field = 0;
       world = record {
-        host = returnAnswer (w .lent) (w .host) code .host;
-        lent = lentAs (returnStaging (w .lent) (w .host) code) (returnCard (w .lent) (w .host) code) (w .lent .text);
+        host = returnAnswer (w .lent) (w .index) (w .host) code .host;
+        lent = lentAs (returnStaging (w .lent) (w .index) (w .host) code) (returnCard (w .lent) (w .index) (w .host) code) (w .lent .text);
+        index = returnIndex (w .lent) (w .index) (w .host) code;
         charge = w .charge;
       };
       memory = [];
     }
-step w (LookUp id) = record { said = Part (looked (w .lent) (w .host) id); field = 0; world = w; memory = [] }
+step w (LookUp id) = record { said = Part (looked (w .lent) (w .index) (w .host) id); field = 0; world = w; memory = [] }
 
 -- the memory that is lent to a call; none to the others
 abbrev pub memoryOf : Op → List ℕ
@@ -145,17 +160,17 @@ pub record LendsBytes (o : Op) : Type 0 where
   pub memory : Bytes (memoryOf o)
   pub args : Bytes (argsOf o)
 
--- any sequence of calls: "each call gets card, staging, manifest and state as the last one left them"
+-- any sequence of calls: "each call gets card, staging, manifest and state as the last one left them", and the table
 abbrev pub run : World → List Op → World
 run w [] = w
 run w (o ∷ os) = run (step w o .world) os
 
 -- the box as mount leaves it, under any charge rule; and as it is, under the one that the manifest names
-abbrev pub mountedUnder : (ℕ → ℕ) → Lent → ℕ → World
-mountedUnder charge′ l used = record { host = mounted l used .host; lent = l; charge = charge′ }
+abbrev pub mountedUnder : (ℕ → ℕ) → Lent → List ℕ → ℕ → World
+mountedUnder charge′ l table used = record { host = mounted l table used .host; lent = l; index = mountIndex l table used; charge = charge′ }
 
-abbrev pub mountedAs : Lent → ℕ → World
-mountedAs l used = boxOf (mounted l used .host) l
+abbrev pub mountedAs : Lent → List ℕ → ℕ → World
+mountedAs l table used = boxOf (mounted l table used .host) l (mountIndex l table used)
 
 -- ---- 01's numbers for what is said
 

@@ -14,6 +14,7 @@ use Rattle.value.specs.declared.Fault.the-variants.{Fine as NoFault, Outside, U
 use Rattle.manifest.specs.Saying.{isGood, modulesSaid, manifestOf, mayRead, mayWrite}
 use Rattle.card.specs.Walk.{chainTo}
 use Rattle.card.specs.Listing.{fit, pageOf}
+use Rattle.card.specs.Look.{Look, isFault, pageBy}
 use Rattle.card.specs.Records.{size}
 use Rattle.card.specs.declared.Page.{Page}
 use Rattle.weave.specs.declared.Code.{Code}
@@ -26,11 +27,11 @@ use Rattle.weave.specs.Args.{recordFine, writeArgs, readArgs, openArgs, nextArg
 use Rattle.weave.specs.Checks.{lentFine, handleFine, slotFine}
 use Rattle.takes.specs.Payloads.{payloadChecked}
 use Rattle.takes.specs.Pages.{pageCode, pageCharge}
-use Rattle.host.specs.Hosts.{lengthsOf}
+use Rattle.host.specs.Hosts.{lengthsOf, indexFine}
 use Rattle.writes.specs.Stage.{roomFine, isPanic, writtenTopic, dataLen, writeCharge}
 use Rattle.reads.specs.Reading.{readTopic, readList}
-use Rattle.reads.specs.Paging.{nextList}
-use Rattle.promises.specs.Box.{World, cardChained, stagedPart, Op, Begin, Ingress, Write, Read, Open, Next, Close, Return, LookUp}
+use Rattle.reads.specs.Paging.{nextLook}
+use Rattle.promises.specs.Box.{World, stagedPart, Op, Begin, Ingress, Write, Read, Open, Next, Close, Return, LookUp}
 
 pub record Check : Type 0 where
   pub asks : Bool
@@ -88,6 +89,10 @@ abbrev pub lentAsks : World → Bool
 lentAsks w =
     lentFine (w .host .lengths) (lengthsOf (w .lent)) (isGood (manifestOf (w .lent .text))) (modulesSaid (manifestOf (w .lent .text))) (w .host .used)
     (w .host .next .0) (w .host .weave)
+
+-- (1) of a call that is lent the table: "A table whose length differs from the one at mount"
+abbrev pub indexAsks : World → Bool
+indexAsks w = indexFine (w .index) (w .host)
 
 -- .. of what is no module call
 abbrev pub lentAsked : World → Check
@@ -154,11 +159,17 @@ nextFirst w m a =
     checkAt (recordFine m a 24) 255  -- (4)
     ∷ checkAt (outFine m (nextArgs m a .out)) 8  -- (6)
     ∷ check (handleFine (w .host .weave) (nextArgs m a .handle)) NotNow  -- (9)
-    ∷ check (cardChained (w .lent) (w .host)) Unsound
     ∷ []
 
+-- what it looks at: the records from the cursor's place through the one that ends the page, by the table
+abbrev pub nextLooks : World → List ℕ → ℕ → Look
+nextLooks w m a = nextLook (w .lent) (w .index) (w .host) m a
+
 abbrev pub nextAsks : World → List ℕ → ℕ → List Check
-nextAsks w m a = nextFirst w m a ++ paged w (pageOf (nextArgs m a .out .len) (nextList (w .lent) (w .host) (nextArgs m a .handle)))
+nextAsks w m a =
+    nextFirst w m a
+    -- (9): "a looked-at record that is unsound or has another number -3"
+    ++ (check (not (isFault (nextLooks w m a .stop))) Unsound ∷ paged w (pageBy (nextLooks w m a)))
 
 abbrev pub closeAsks : World → List ℕ → ℕ → List Check
 closeAsks w m a =
@@ -184,10 +195,10 @@ checksOf w (Ingress topic payload) =
 checksOf w (Write m a) = gate w m ++ writeAsks w m a
 checksOf w (Read m a) = gate w m ++ readAsks w m a
 checksOf w (Open m a) = gate w m ++ openAsks w m a
-checksOf w (Next m a) = gate w m ++ nextAsks w m a
+checksOf w (Next m a) = checkAt (indexAsks w) 254 ∷ (gate w m ++ nextAsks w m a)
 checksOf w (Close m a) = gate w m ++ closeAsks w m a
 -- "Return has checks 1 and 2 only; look-up has check 1 only", and gives no code
-checksOf w (Return code) = lentAsked w ∷ check (w .host .weave .running) NotNow ∷ []
+checksOf w (Return code) = check (indexAsks w) Bad ∷ lentAsked w ∷ check (w .host .weave .running) NotNow ∷ []
 checksOf w (LookUp id) = []
 
 -- ---- what an accepted call answers
@@ -200,7 +211,7 @@ answers w (Write m a) = 0
 answers w (Read m a) = size (fit (readArgs m a .out .len) (readList (w .lent) (w .host) m a))
 -- "handle numbers 1, 2, 3 .. within the weave"
 answers w (Open m a) = w .host .weave .opened + 1
-answers w (Next m a) = size (fit (nextArgs m a .out .len) (nextList (w .lent) (w .host) (nextArgs m a .handle)))
+answers w (Next m a) = size (nextLooks w m a .part)
 answers w (Close m a) = 0
 -- a return answers its fate, and a look-up the part that it shows
 answers w (Return code) = 0

@@ -27,8 +27,8 @@ use Rattle.weave.specs.Codes.{number}
 use Rattle.weave.specs.Moves.{cursorOf}
 use Rattle.weave.specs.Args.{nextArgs}
 use Rattle.host.specs.declared.Fate.the-variants.{Discarded}
-use Rattle.promises.specs.Box.{World, Next, Return, Ended, step, saidNumber}
-use Rattle.promises.specs.Checks.{Passed, gate, nextFirst}
+use Rattle.promises.specs.Box.{World, Indexed, Next, Return, Ended, step, saidNumber}
+use Rattle.promises.specs.Checks.{Passed, checkAt, indexAsks, gate, nextFirst}
 use Rattle.promises.specs.Outcome.{Returns}
 use Rattle.promises.specs.Turn.{listLeft}
 
@@ -48,9 +48,9 @@ pub data Case : Type 0 where
   returned : ℤ → Code → Case
   costs : Charge → ℕ → ℕ → Case
 
--- a next that passes its checks up to the soundness of the card, and could pay for n bytes
+-- a next that passes its checks before it looks at the card, and could pay for n bytes
 pub record Ready (w : World) (m : List ℕ) (a n : ℕ) : Type 0 where
-  pub passed : All Passed (gate w m ++ nextFirst w m a)
+  pub passed : All Passed (checkAt (indexAsks w) 254 ∷ (gate w m ++ nextFirst w m a))
   pub budget : w .host .weave .units + (1 + n / 8) ≤ w .host .weave .resmax
 
 -- the cursor that it asks for
@@ -59,7 +59,7 @@ cursorAt w m a = cursorOf (w .host .weave) (nextArgs m a .handle)
 
 -- what a case says: the total_len of a topic and a payload of these lengths; the data_len of the value at p of memory m; good flags; a span inside; a
 -- float's bits as they are stored (`float-canonical` of value's proofs/ScalarLaws.antt ties `canonical` to the code's float); a good topic, a good filter, a topic
--- that a card may keep; UTF-8; whatever the box, what a next answers whose cursor has this window and limit, and one into so many bytes where two records of 152 are left; and what becomes of a weave that is
+-- that a card may keep; UTF-8; whatever the box, with a damaged card too, what a next answers whose cursor has this window and limit, and, on a sound card, one into so many bytes where two records of 152 are left; and what becomes of a weave that is
 -- not spoiled by a return with this code; what a write costs by an edition of the charge rule, by the length of its record
 abbrev pub Holds : Case → Type 0
 Holds (total t d n) = totalLen t d ≡ n
@@ -75,7 +75,7 @@ Holds (window from to limit z) =
     (w : World) (m : List ℕ) (a : ℕ) → Ready w m a 0 → cursorAt w m a .from .0 ≡ from → cursorAt w m a .to .0 ≡ to → cursorAt w m a .limit ≡ limit
     → saidNumber (step w (Next m a) .said) ≡ z
 Holds (twoLeft cap z) =
-    (w : World) (m : List ℕ) (a : ℕ) (r s : List ℕ) → Ready w m a 304 → nextArgs m a .out .len ≡ cap → listLeft w (nextArgs m a .handle) ≡ r ∷ s ∷ []
+    (w : World) (m : List ℕ) (a : ℕ) (r s : List ℕ) → Ready w m a 304 → Indexed w → nextArgs m a .out .len ≡ cap → listLeft w (nextArgs m a .handle) ≡ r ∷ s ∷ []
     → length r ≡ 152 → length s ≡ 152 → saidNumber (step w (Next m a) .said) ≡ z
 Holds (costs c t n) = chargeBy c t ≡ n
 Holds (returned code c) = (w : World) → Returns w → w .host .weave .spoiled .0 ≡ Not → step w (Return code) .said ≡ Ended (Discarded c)

@@ -38,12 +38,12 @@ abbrev pub namedBy : List Check → List ℕ
 namedBy [] = []
 namedBy (c ∷ cs) = cond (isBad (c .code)) (c .field ∷ namedBy cs) (namedBy cs)
 
--- .. of each module call: twice 254, as check 1 has the memory and the rest; of a write twice the data, as it lies there and as its value says
+-- .. of each module call: twice 254, as check 1 has the memory and the rest, and once more of a next, for the table; of a write twice the data, as it lies there and as its value says
 abbrev pub fieldsOf : Op → List ℕ
 fieldsOf (Write m a) = 254 ∷ 254 ∷ 255 ∷ 0 ∷ 32 ∷ 16 ∷ 24 ∷ 16 ∷ []
 fieldsOf (Read m a) = 254 ∷ 254 ∷ 255 ∷ 0 ∷ 24 ∷ []
 fieldsOf (Open m a) = 254 ∷ 254 ∷ 255 ∷ 0 ∷ 40 ∷ []
-fieldsOf (Next m a) = 254 ∷ 254 ∷ 255 ∷ 8 ∷ []
+fieldsOf (Next m a) = 254 ∷ 254 ∷ 254 ∷ 255 ∷ 8 ∷ []
 fieldsOf (Close m a) = 254 ∷ 254 ∷ 255 ∷ []
 fieldsOf (Begin args) = []
 fieldsOf (Ingress topic payload) = []

@@ -20,14 +20,17 @@ use Rattle.weave.specs.Table.{noSlots}
 use Rattle.weave.specs.States.{freshWeave}
 use Rattle.host.specs.declared.Host.{Host}
 use Rattle.host.specs.declared.Fate.the-variants.{Refused, Discarded, Running, Committed}
-use Rattle.host.specs.Hosts.{Lent, lentAs, withWeave, lentCheck}
+use Rattle.host.specs.Hosts.{Lent, lentAs, withWeave, cardCount, indexFine, lentCheck}
+use Rattle.card.specs.Records.{records}
+use Rattle.card.specs.Index.{entered}
 use Rattle.promises.specs.Box.{World, stagedPart, Op, Return, isRefused, saidEvents, saidBytes, Said, Answered, Ended, Part, Step, step, saidNumber}
 use Rattle.promises.specs.Refusal.{OnlyThere}
 use Rattle.promises.specs.Checks.{failing, checksOf}
 
--- 01's conditions, in the order in which it gives them
-pub record Conditions (l : Lent) (h : Host) (code : ℤ) : Type 0 where
+-- 01's conditions, in the order in which it gives them, and 02's of the table
+pub record Conditions (l : Lent) (table : List ℕ) (h : Host) (code : ℤ) : Type 0 where
   -- "Return has checks 1 and 2 only"
+  pub table-long : indexFine table h ≡ true
   pub check-1 : isFine (lentCheck l h) ≡ true
   pub running : h .weave .running ≡ true
   -- "spoiled gives discard"
@@ -40,11 +43,14 @@ pub record Conditions (l : Lent) (h : Host) (code : ℤ) : Type 0 where
   pub sound : chainTo (stagedPart l h) (h .next .0) (h .next .0 + h .weave .count) ≡ true
   -- "if the staged bytes don't fit the card, discard with -4; else commit"
   pub fits : h .used + h .weave .staged ≤ length (l .card)
+  -- 02, A9: a table shorter than the records needed "-4 at the last return"
+  pub entries : cardCount h + h .weave .count ≤ length table
 
 -- ---- what else can come of a return, in 01's order
 
 -- "Return has checks 1 and 2 only"
 pub record Returns (w : World) : Type 0 where
+  pub table-long : indexFine (w .index) (w .host) ≡ true
   pub check-1 : isFine (lentCheck (w .lent) (w .host)) ≡ true
   pub running : w .host .weave .running ≡ true
 
@@ -74,13 +80,16 @@ pub data Reason (w : World) (code : ℤ) : Code → Type 0 where
   unsound : Unhindered w code → w .host .weave .turn ≡ moduleCount w → stagedChained w ≡ false → Reason w code Unsound
   no-room : Unhindered w code → w .host .weave .turn ≡ moduleCount w → stagedChained w ≡ true → length (w .lent .card) < w .host .used + w .host .weave .staged
       → Reason w code NoRoom
+  -- 02, A9: "then no room in the table for all staged events -4"
+  no-entries : Unhindered w code → w .host .weave .turn ≡ moduleCount w → stagedChained w ≡ true → w .host .used + w .host .weave .staged ≤ length (w .lent .card)
+      → length (w .index) < cardCount (w .host) + w .host .weave .count → Reason w code NoRoom
 
 -- what a return answers, in 01's numbers: its code, "discard with its reason", or 0; and "The outcome gives events and bytes"
 pub record InNumbers (w : World) (code : ℤ) (s : Said) : Type 0 where
   pub refused : isRefused s ≡ true → saidNumber s ≡ number (failing (checksOf w (Return code)))
   pub discarded : (c : Code) → Reason w code c → (saidNumber s ≡ number c) × ((saidEvents s ≡ 0) × (saidBytes s ≡ 0))
   pub running : Unhindered w code → w .host .weave .turn < moduleCount w → (saidNumber s ≡ pos 0) × ((saidEvents s ≡ 0) × (saidBytes s ≡ 0))
-  pub committed : Conditions (w .lent) (w .host) code → (saidNumber s ≡ pos 0) × ((saidEvents s ≡ w .host .weave .count) × (saidBytes s ≡ w .host .weave .staged))
+  pub committed : Conditions (w .lent) (w .index) (w .host) code → (saidNumber s ≡ pos 0) × ((saidEvents s ≡ w .host .weave .count) × (saidBytes s ≡ w .host .weave .staged))
 
 -- "Otherwise the next module has its turn"; "Cursors close at each return"; and ingress is too late
 abbrev pub nextTurn : Weave → Weave
@@ -99,9 +108,11 @@ nextTurn v = record {
   slots = noSlots;
 }
 
--- the card, the manifest and what the state says of them are as they were
+-- the card, its table, the manifest and what the state says of them are as they were
 pub record SameCard (was is : World) : Type 0 where
   pub card : is .lent .card ≡ was .lent .card
+  pub index : is .index ≡ was .index
+  pub index-long : is .host .index ≡ was .host .index
   pub text : is .lent .text ≡ was .lent .text
   pub lengths : is .host .lengths ≡ was .host .lengths
   pub used : is .host .used ≡ was .host .used
@@ -143,10 +154,13 @@ RunsOn w (o ∷ os) = (w .host .weave .running ≡ true) × RunsOn (step w o .wo
 -- "Commit appends the staged bytes to the used part; no other card byte changes"
 pub record Appended (was is : World) : Type 0 where
   pub lengths : is .host .lengths ≡ was .host .lengths
+  pub index-long : is .host .index ≡ was .host .index
   pub used : is .host .used ≡ was .host .used + was .host .weave .staged
   pub next : is .host .next .0 ≡ was .host .next .0 + was .host .weave .count
   pub bytes : part (was .host .used) (was .host .weave .staged) (is .lent .card) ≡ take (was .host .weave .staged) (was .lent .staging)
   pub others : OnlyThere (was .lent .card) (is .lent .card) (was .host .used) (was .host .weave .staged)
+  -- 02, A9: "A commit sets the entries of the new records, no others"
+  pub entries : is .index ≡ entered (was .index) (cardCount (was .host)) (was .host .used) (records (stagedPart (was .lent) (was .host)) (was .host .next .0))
   pub faulted : is .host .faulted ≡ was .host .faulted
   pub weave : is .host .weave ≡ freshWeave
   pub staging : is .lent .staging ≡ zeros (length (was .lent .staging))
@@ -154,7 +168,7 @@ pub record Appended (was is : World) : Type 0 where
 
 -- "Discard leaves the card, and the state as before begin (but for faulted)": the state as it was, with the mark `faulted` as it is
 abbrev pub butFaulted : Host → Bool → Host
-butFaulted h f = record { lengths = h .lengths; used = h .used; next = h .next; faulted = f; weave = h .weave }
+butFaulted h f = record { lengths = h .lengths; index = h .index; used = h .used; next = h .next; faulted = f; weave = h .weave }
 
 -- a write to `filament/core/panic`: "answers 0, stages and charges nothing, spoils the weave (-1) and marks the process faulted"
 pub record PanicLeft (was : World) (s : Step) : Type 0 where
@@ -185,7 +199,7 @@ firstTurn args = record {
 
 -- .. and nothing else of the box has changed
 abbrev pub begunWith : World → List ℕ → World
-begunWith w args = record { host = withWeave (w .host) (firstTurn args); lent = lentAs (zeros (length (w .lent .staging))) (w .lent .card) (w .lent .text); charge = w .charge }
+begunWith w args = record { host = withWeave (w .host) (firstTurn args); lent = lentAs (zeros (length (w .lent .staging))) (w .lent .card) (w .lent .text); index = w .index; charge = w .charge }
 
 -- one weave: what begin set stays while it runs
 pub record SameWeave (was is : World) : Type 0 where

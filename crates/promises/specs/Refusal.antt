@@ -20,6 +20,7 @@ marked c h = cond (isBudget c) (withWeave h (spoilt (h .weave) Overspent)) h
 -- every lent byte and the state are as before, but for the mark
 pub record Unchanged (w : World) (o : Op) (s : Step) : Type 0 where
   pub lent : s .world .lent ≡ w .lent
+  pub index : s .world .index ≡ w .index
   pub memory : s .memory ≡ memoryOf o
   pub host : s .world .host ≡ marked (codeOf (s .said)) (w .host)
 

@@ -4,12 +4,12 @@ use mathlib.Core.Path.{_≡_}
 use mathlib.Core.Bool.{true, false}
 use mathlib.Core.List.{List, [], _∷_, _++_}
 use mathlib.Core.Logic.{_⊎_}
-use Prim.Native.Nat.{ℕ}
+use Prim.Native.Nat.{ℕ, _≤_}
 use lib.ListN.{length, getD}
 use Rattle.card.specs.Pick.{All}
 use Rattle.card.specs.Records.{records}
 use Rattle.card.specs.Walk.{chainTo}
-use Rattle.promises.specs.Box.{World, startsCard, cardRecords, Op, Begin, Ingress, Write, Read, Open, Next, Close, Return, LookUp, step, run}
+use Rattle.promises.specs.Box.{World, startsCard, cardRecords, IndexFits, Op, Begin, Ingress, Write, Read, Open, Next, Close, Return, LookUp, step, run}
 use Rattle.promises.specs.TwoBands.{Beside, isGranted, CardsAlike, heardOver}
 
 -- ---- the same life
@@ -59,6 +59,10 @@ pub record Exchanged (k : ℕ) (w₁ w₂ : World) : Type 0 where
   pub was-sound : chainTo was first next ≡ true
   pub is-sound : chainTo is first next ≡ true
   pub back-sound : chainTo back next (w₁ .host .next .0) ≡ true
+  -- of the size that mount takes, and each with a table that fits it
+  pub small : length (w₁ .lent .card) ≤ 16777216
+  pub fits₁ : IndexFits w₁
+  pub fits₂ : IndexFits w₂
   pub was-hidden : All (λ (r : List ℕ). isGranted k w₁ r ≡ false) (records was first)
   pub is-hidden : All (λ (r : List ℕ). isGranted k w₁ r ≡ false) (records is first)
 

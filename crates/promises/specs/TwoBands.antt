@@ -10,16 +10,17 @@ use lib.IntN.{ℤ}
 use lib.ListN.{length}
 use Rattle.manifest.specs.Saying.{mayRead}
 use Rattle.record.specs.Record.{topicOf}
-use Rattle.promises.specs.Box.{World, cardRecords, cardChained, Op, Write, Read, Open, Next, Close, Return, Said, step, run}
+use Rattle.promises.specs.Box.{World, cardRecords, Indexed, Op, Write, Read, Open, Next, Close, Return, Said, step, run}
 
 -- ---- two boxes
 
--- "the same manifest, .. staging, lent lengths and state": all but the cards' bytes. The state has the used length, the next number and the weave, with its turn, its units and its
+-- "the same manifest, .. staging, lent lengths and state": all but the cards' bytes and their tables' entries. The state has the used length, the next number and the weave, with its turn, its units and its
 -- table of cursors. The charge rule is the manifest's, where a box is a host's (Box: `boxOf`).
 pub record Beside (w₁ w₂ : World) : Type 0 where
   pub text : w₁ .lent .text ≡ w₂ .lent .text
   pub staging : w₁ .lent .staging ≡ w₂ .lent .staging
   pub card-length : length (w₁ .lent .card) ≡ length (w₂ .lent .card)
+  pub index-length : length (w₁ .index) ≡ length (w₂ .index)
   pub charge : w₁ .charge ≡ w₂ .charge
   pub state : w₁ .host ≡ w₂ .host
 
@@ -29,9 +30,9 @@ isGranted k w r = mayRead (w .lent .text) k (topicOf r)
 
 -- the cards of two boxes, for the module k
 pub record CardsAlike (k : ℕ) (w₁ w₂ : World) : Type 0 where
-  -- "sound cards"
-  pub sound₁ : cardChained (w₁ .lent) (w₁ .host) ≡ true
-  pub sound₂ : cardChained (w₂ .lent) (w₂ .host) ≡ true
+  -- "sound cards", each with a table that fits it
+  pub sound₁ : Indexed w₁
+  pub sound₂ : Indexed w₂
   -- "that agree on every event granted `in` to that module": such an event is on the one card exactly when it is on the other, byte for byte, its number among its bytes.
   -- "The other events differ at will": nothing is said of them, of what they are about, what they hold and how long each is. (Their numbers are those that are left.)
   pub agree : (r : List ℕ) → isGranted k w₁ r ≡ true → List·Memᴰ r (cardRecords w₁) ↔ List·Memᴰ r (cardRecords w₂)
@@ -87,6 +88,6 @@ pub record SameTurn (w₁ w₂ : World) (cs : List Call) : Type 0 where
   pub units : afterCalls w₁ cs .host .weave .units ≡ afterCalls w₂ cs .host .weave .units
   -- and so is the whole state: they are still alike
   pub alike : Alike (afterCalls w₁ cs) (afterCalls w₂ cs)
-  -- the outcome with its counts, whatever code is returned, by the last module or by another; and what is behind it, but for the cards' bytes
+  -- the outcome with its counts, whatever code is returned, by the last module or by another; and what is behind it, but for the cards' bytes and tables
   pub outcome : (code : ℤ) → heardOf (afterCalls w₁ cs) (Return code) ≡ heardOf (afterCalls w₂ cs) (Return code)
   pub behind : (code : ℤ) → Beside (step (afterCalls w₁ cs) (Return code) .world) (step (afterCalls w₂ cs) (Return code) .world)
