@@ -30,7 +30,7 @@ abbrev pub SeenOnce : {n : ℕ} (ps : List (PK n)) (r : RK n) → Out n ps r →
 SeenOnce {n} ps r Q seen =
     (κs : Lfts n) (a : Dens κs ps) (z z′ : resT r κs .Denot) (s s′ : AtExit (endedOf n ps r) κs) → Q κs a z s → Q κs a z′ s′ → seen κs z s ≡ seen κs z′ s′
 
--- two that are equal to a third, by a contract of one clause, of two, of three
+-- two that are equal to a third, by a contract of one clause, of two, of three, of four
 pub meet : {A : Type 0} {x y z : A} → x ≡ z → y ≡ z → x ≡ y
 meet p q = p ∙ sym q
 
@@ -46,7 +46,13 @@ meet-1-0 p q = p .1 .0 ∙ sym (q .1 .0)
 meet-1-1 : {A B C D E : Type 0} {x y z : A} → B × (C × (x ≡ z)) → D × (E × (y ≡ z)) → x ≡ y
 meet-1-1 p q = p .1 .1 ∙ sym (q .1 .1)
 
-ruleset met = (meet, meet-0, meet-1, meet-1-0, meet-1-1)
+meet-1-1-0 : {A B C D E F G : Type 0} {x y z : A} → B × (C × ((x ≡ z) × D)) → E × (F × ((y ≡ z) × G)) → x ≡ y
+meet-1-1-0 p q = p .1 .1 .0 ∙ sym (q .1 .1 .0)
+
+meet-1-1-1 : {A B C D E F G : Type 0} {x y z : A} → B × (C × (D × (x ≡ z))) → E × (F × (G × (y ≡ z))) → x ≡ y
+meet-1-1-1 p q = p .1 .1 .1 ∙ sym (q .1 .1 .1)
+
+ruleset met = (meet, meet-0, meet-1, meet-1-0, meet-1-1, meet-1-1-0, meet-1-1-1)
 
 -- ---- numbers and runs of bytes
 
@@ -138,17 +144,18 @@ pub record CardOnce : Type 0 where
   pub grants-wanted-topic : ResultOnce card.grants.wanted_topic.Kinds.ps card.grants.wanted_topic.Kinds.r card.grants.wanted_topic.Reads.Learnt
   pub cursor-reading : ResultOnce card.Cursor.reading.Kinds.ps card.Cursor.reading.Kinds.r card.Cursor.reading.Reads.Learnt
   pub cursor-past : ResultOnce card.Cursor.past.Kinds.ps card.Cursor.past.Kinds.r card.Cursor.past.Reads.Learnt
+  pub cursor-window : ResultOnce card.Cursor.window.Kinds.ps card.Cursor.window.Kinds.r card.Cursor.window.Reads.Learnt
+  pub numbers-count : ResultOnce card.Numbers.count.Kinds.ps card.Numbers.count.Kinds.r card.Numbers.count.Reads.Learnt
+  pub index-enter-table : SeenOnce card.index.enter.Kinds.ps card.index.enter.Kinds.r card.index.enter.Reads.Learnt (λ κs z s. now (s .1 .1 .0))
+  pub spots-spot-by : ResultOnce card.spots.spot_by.Kinds.ps card.spots.spot_by.Kinds.r card.spots.spot_by.Reads.Learnt
   pub listing-lists : ResultOnce card.listing.lists.Kinds.ps card.listing.lists.Kinds.r card.listing.lists.Reads.Learnt
   pub pages-measure : ResultOnce card.pages.measure.Kinds.ps card.pages.measure.Kinds.r card.pages.measure.Reads.Learnt
   pub pages-copy-page : ResultOnce card.pages.copy_page.Kinds.ps card.pages.copy_page.Kinds.r card.pages.copy_page.Reads.Learnt
-  pub pages-copy-page-memory : SeenOnce card.pages.copy_page.Kinds.ps card.pages.copy_page.Kinds.r card.pages.copy_page.Reads.Learnt (λ κs z s. now (s .1 .1 .1 .1 .0))
+  pub pages-copy-page-memory : SeenOnce card.pages.copy_page.Kinds.ps card.pages.copy_page.Kinds.r card.pages.copy_page.Reads.Learnt (λ κs z s. now (s .1 .1 .1 .1 .1 .0))
   pub walk-head-len : ResultOnce card.walk.head_len.Kinds.ps card.walk.head_len.Kinds.r card.walk.head_len.Reads.Learnt
   pub walk-check-chain : ResultOnce card.walk.check_chain.Kinds.ps card.walk.check_chain.Kinds.r card.walk.check_chain.Reads.Learnt
   pub walk-chain-to : ResultOnce card.walk.chain_to.Kinds.ps card.walk.chain_to.Kinds.r card.walk.chain_to.Reads.Learnt
   pub walk-find : ResultOnce card.walk.find.Kinds.ps card.walk.find.Kinds.r card.walk.find.Reads.Learnt
-  pub walk-record-from : SeenOnce card.walk.record_from.Kinds.ps card.walk.record_from.Kinds.r card.walk.record_from.Reads.Learnt (λ κs z s. now z)
-  pub walk-record-of : SeenOnce card.walk.record_of.Kinds.ps card.walk.record_of.Kinds.r card.walk.record_of.Reads.Learnt (λ κs z s. now z)
-  pub walk-look-up : SeenOnce card.walk.look_up.Kinds.ps card.walk.look_up.Kinds.r card.walk.look_up.Reads.Learnt (λ κs z s. now z)
 
 pub card-once : CardOnce
 card-once = search met
@@ -223,7 +230,7 @@ pub record TakesOnce : Type 0 where
   pub page-page-bytes : ResultOnce takes.page.page_bytes.Kinds.ps takes.page.page_bytes.Kinds.r takes.page.page_bytes.Reads.Learnt
   pub page-find-page : ResultOnce takes.page.find_page.Kinds.ps takes.page.find_page.Kinds.r takes.page.find_page.Reads.Learnt
   pub page-hand-over : ResultOnce takes.page.hand_over.Kinds.ps takes.page.hand_over.Kinds.r takes.page.hand_over.Reads.Learnt
-  pub page-hand-over-memory : SeenOnce takes.page.hand_over.Kinds.ps takes.page.hand_over.Kinds.r takes.page.hand_over.Reads.Learnt (λ κs z s. now (s .1 .1 .1 .1 .1 .0))
+  pub page-hand-over-memory : SeenOnce takes.page.hand_over.Kinds.ps takes.page.hand_over.Kinds.r takes.page.hand_over.Reads.Learnt (λ κs z s. now (s .1 .1 .1 .1 .1 .1 .0))
   pub page-kept-topic : ResultOnce takes.page.kept_topic.Kinds.ps takes.page.kept_topic.Kinds.r takes.page.kept_topic.Reads.Learnt
   pub stage-fault-code : ResultOnce takes.stage.fault_code.Kinds.ps takes.stage.fault_code.Kinds.r takes.stage.fault_code.Reads.Learnt
   pub stage-payload-checked : ResultOnce takes.stage.payload_checked.Kinds.ps takes.stage.payload_checked.Kinds.r takes.stage.payload_checked.Reads.Learnt
@@ -243,11 +250,15 @@ pub record HostOnce : Type 0 where
   pub module-return : ResultOnce host.Host.module_return.Kinds.ps host.Host.module_return.Kinds.r host.Host.module_return.Reads.Learnt
   pub module-return-card : SeenOnce host.Host.module_return.Kinds.ps host.Host.module_return.Kinds.r host.Host.module_return.Reads.Learnt (λ κs z s. now (s .1 .1 .0))
   pub module-return-staging : SeenOnce host.Host.module_return.Kinds.ps host.Host.module_return.Kinds.r host.Host.module_return.Reads.Learnt (λ κs z s. now (s .1 .0))
+  pub module-return-index : SeenOnce host.Host.module_return.Kinds.ps host.Host.module_return.Kinds.r host.Host.module_return.Reads.Learnt (λ κs z s. now (s .1 .1 .1 .1 .0))
   pub fresh : ResultOnce host.Host.fresh.Kinds.ps host.Host.fresh.Kinds.r host.Host.fresh.Reads.Learnt
   pub none : ResultOnce host.Host.none.Kinds.ps host.Host.none.Kinds.r host.Host.none.Reads.Learnt
   pub lengths-of : ResultOnce host.state.lengths_of.Kinds.ps host.state.lengths_of.Kinds.r host.state.lengths_of.Reads.Learnt
   pub with-weave : ResultOnce host.Host.with_weave.Kinds.ps host.Host.with_weave.Kinds.r host.Host.with_weave.Reads.Learnt
   pub enter : ResultOnce host.Host.enter.Kinds.ps host.Host.enter.Kinds.r host.Host.enter.Reads.Learnt
+  pub card-count : ResultOnce host.Host.card_count.Kinds.ps host.Host.card_count.Kinds.r host.Host.card_count.Reads.Learnt
+  pub index-fine : ResultOnce host.Host.index_fine.Kinds.ps host.Host.index_fine.Kinds.r host.Host.index_fine.Reads.Learnt
+  pub enter-indexed : ResultOnce host.Host.enter_indexed.Kinds.ps host.Host.enter_indexed.Kinds.r host.Host.enter_indexed.Reads.Learnt
   pub admit : ResultOnce host.Host.admit.Kinds.ps host.Host.admit.Kinds.r host.Host.admit.Reads.Learnt
   pub gate : ResultOnce host.Entry.gate.Kinds.ps host.Entry.gate.Kinds.r host.Entry.gate.Reads.Learnt
   pub settle : ResultOnce host.Host.settle.Kinds.ps host.Host.settle.Kinds.r host.Host.settle.Reads.Learnt
@@ -263,6 +274,7 @@ host-once = search met
 
 pub record MountsOnce : Type 0 where
   pub mount : ResultOnce mounts.mount.mount.Kinds.ps mounts.mount.mount.Kinds.r mounts.mount.mount.Reads.Learnt
+  pub mount-index : SeenOnce mounts.mount.mount.Kinds.ps mounts.mount.mount.Kinds.r mounts.mount.mount.Reads.Learnt (λ κs z s. now (s .1 .1 .1 .0))
   pub place-of : ResultOnce mounts.look.place_of.Kinds.ps mounts.look.place_of.Kinds.r mounts.look.place_of.Reads.Learnt
   pub look-up : SeenOnce mounts.look.look_up.Kinds.ps mounts.look.look_up.Kinds.r mounts.look.look_up.Reads.Learnt (λ κs z s. now z)
 

@@ -131,7 +131,6 @@ all-fit P cap (r ∷ rs) a = go (leb (length r) cap) (all-fit P (cap - length r)
 records-framed : (s : List ℕ) (id : ℕ) → All Framed (records s id)
 records-framed s id = all-at [] Framed (records s id) (λ k h. good-shown (getD (records s id) k []) (id + k) (records-good s id k h))
 
-
 pub read-page-stands : (w : World) (m : List ℕ) (at : ℕ) → isRefused (step w (Read m at) .said) ≡ false
     → HasPage (step w (Read m at) .memory) (readArgs m at .out .ptr) (fit (readArgs m at .out .len) (readList (w .lent) (w .host) m at))
 unfolding step readAnswer readMemory readList readCheck

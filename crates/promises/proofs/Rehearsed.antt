@@ -94,7 +94,8 @@ pub record SessionOnce : Type 0 where
   pub answer-staging : SeenOnce session.Session.answer.Kinds.ps session.Session.answer.Kinds.r session.Session.answer.Reads.Learnt (λ κs z s. now (s .1 .1 .1 .0))
   pub answer-card : SeenOnce session.Session.answer.Kinds.ps session.Session.answer.Kinds.r session.Session.answer.Reads.Learnt (λ κs z s. now (s .1 .1 .1 .1 .0))
   pub answer-text : SeenOnce session.Session.answer.Kinds.ps session.Session.answer.Kinds.r session.Session.answer.Reads.Learnt (λ κs z s. now (s .1 .1 .1 .1 .1 .0))
-  pub answer-out : SeenOnce session.Session.answer.Kinds.ps session.Session.answer.Kinds.r session.Session.answer.Reads.Learnt (λ κs z s. now (s .1 .1 .1 .1 .1 .1 .0))
+  pub answer-index : SeenOnce session.Session.answer.Kinds.ps session.Session.answer.Kinds.r session.Session.answer.Reads.Learnt (λ κs z s. now (s .1 .1 .1 .1 .1 .1 .0))
+  pub answer-out : SeenOnce session.Session.answer.Kinds.ps session.Session.answer.Kinds.r session.Session.answer.Reads.Learnt (λ κs z s. now (s .1 .1 .1 .1 .1 .1 .1 .0))
   pub «end» : ResultOnce session.Session.end.Kinds.ps session.Session.end.Kinds.r session.Session.end.Reads.Learnt
   pub end-out : SeenOnce session.Session.end.Kinds.ps session.Session.end.Kinds.r session.Session.end.Reads.Learnt (λ κs z s. now (s .1 .0))
   pub over : ResultOnce session.Session.over.Kinds.ps session.Session.over.Kinds.r session.Session.over.Reads.Learnt
@@ -107,6 +108,7 @@ session-once = record {
   answer-staging = λ κs a z z′ s s′ p q. ap (λ (b : Buffers). b .staging) (answers-buffers _ _ z z′ _ _ _ _ p q);
   answer-card = λ κs a z z′ s s′ p q. ap (λ (b : Buffers). b .card) (answers-buffers _ _ z z′ _ _ _ _ p q);
   answer-text = λ κs a z z′ s s′ p q. ap (λ (b : Buffers). b .text) (answers-buffers _ _ z z′ _ _ _ _ p q);
+  answer-index = λ κs a z z′ s s′ p q. ap (λ (b : Buffers). b .index) (answers-buffers _ _ z z′ _ _ _ _ p q);
   answer-out = λ κs a z z′ s s′ p q. answers-out _ _ z z′ _ _ _ _ p q;
   «end» = λ κs a z z′ s s′ p q. put-end _ _ _ _ _ z z′ p q;
   end-out = λ κs a z z′ s s′ p q. put-laid _ _ _ _ _ z z′ p q;
