@@ -17,7 +17,7 @@ returns c =
     let c₄ = c₃ .before in
     let c₅ = c₄ .before in
     let c₆ = c₅ .before in
-    let back : toZ w64 (ofZ w64 (c₆ .args .s .spoiled)) ≡ c₆ .args .s .spoiled = toZ-ofZ {w = w64} (record { sfits = c₄ .struct-told .given .1 .1 .1 .1 .1 .1 .1 .0 .1 }) in simp (c₅ .flag-said .ensures, c₃ .mark-said .ensures, c₂ .flag-said2 .ensures, c₁ .slots-said .ensures, back)
+    let back : toZ w64 (ofZ w64 (c₆ .args .s .spoiled)) ≡ c₆ .args .s .spoiled = toZ-ofZ {w = w64} (record { sfits = c₄ .struct-told .given .1 .1 .1 .1 .1 .1 .1 .1 .0 .1 }) in simp (c₅ .flag-said .ensures, c₃ .mark-said .ensures, c₂ .flag-said2 .ensures, c₁ .slots-said .ensures, back)
 
 pub weave-said-spec : {M : Type 1} → statement M
 weave-said-spec =

@@ -14,8 +14,8 @@ returns : tie.Need-returns
 returns c =
     let c₁ = c .before in
     let c₂ = c₁ .before in
-    let c₃ = c₂ .before .before .before .before in
-    let l = lentAs (now (c₃ .args .staging)) (now (c₃ .args .card)) (now (c₃ .args .manifest)) in let e : c₁ .place-of .result ≡ placeOf l (hostSaid (c₃ .args .state)) (c₃ .args .id) = c₁ .place-of .ensures ∙ simp (c₂ .host-said .ensures) in let r = said-is (c₁ .place-of .result) (c .side-number .result) (c .side-number .ensures) ∙ ap placeSaid e in (r, ap (foundAt l) r ∙ found-there l (hostSaid (c₃ .args .state)) (c₃ .args .id))
+    let c₃ = c₂ .before .before .before .before .before in
+    let l = lentAs (now (c₃ .args .staging)) (now (c₃ .args .card)) (now (c₃ .args .manifest)) in let e : c₁ .place-of .result ≡ placeOf l (now (c₃ .args .index)) (hostSaid (c₃ .args .state)) (c₃ .args .id) = c₁ .place-of .ensures ∙ simp (c₂ .host-said .ensures) in let r = said-is (c₁ .place-of .result) (c .side-number .result) (c .side-number .ensures) ∙ ap placeSaid e in (r, ap (foundAt l) r ∙ found-there l (now (c₃ .args .index)) (hostSaid (c₃ .args .state)) (c₃ .args .id))
 
 pub loafheron-look-up-spec : {M : Type 1} → statement M
 loafheron-look-up-spec = tie.close (tie.spec (λ c κs. search needs) (λ c κs. search needs) (λ c κs. search needs) returns)

@@ -8,10 +8,10 @@ use Rattle.loafheron.proofs.turns.loafheron_return.Tie as tie
 
 returns : tie.Need-returns
 returns c =
-    let c₁ = c .before .before .before .before .before in
-    let c₂ = c₁ .before .before .before in
-    let c₃ = c₂ .before .before .before .before in
-    (simp (c .return-reply .ensures, c₁ .module-return .ensures .0, c₂ .host-said .ensures, toZ-ofZ {w = w64} (c₃ .fits .code)), (c₁ .module-return .ensures .1 .0 ∙ simp (c₂ .host-said .ensures, toZ-ofZ {w = w64} (c₃ .fits .code)), c₁ .module-return .ensures .1 .1 ∙ simp (c₂ .host-said .ensures, toZ-ofZ {w = w64} (c₃ .fits .code))))
+    let c₁ = c .before .before .before .before .before .before .before in
+    let c₂ = c₁ .before .before .before .before in
+    let c₃ = c₂ .before .before .before .before .before in
+    (simp (c .return-reply .ensures, c₁ .module-return .ensures .0, c₂ .host-said .ensures, toZ-ofZ {w = w64} (c₃ .fits .code)), (c₁ .module-return .ensures .1 .0 ∙ simp (c₂ .host-said .ensures, toZ-ofZ {w = w64} (c₃ .fits .code)), (c₁ .module-return .ensures .1 .1 .0 ∙ simp (c₂ .host-said .ensures, toZ-ofZ {w = w64} (c₃ .fits .code)), c₁ .module-return .ensures .1 .1 .1 ∙ simp (c₂ .host-said .ensures, toZ-ofZ {w = w64} (c₃ .fits .code)))))
 
 pub loafheron-return-spec : {M : Type 1} → statement M
 loafheron-return-spec =
@@ -20,6 +20,7 @@ loafheron-return-spec =
     (λ c κs. search needs)
     (λ c κs. search needs)
     (λ c κs. search needs)
+    (λ c. search needs)
     (λ c. search needs)
     (λ c. search needs)
     returns)
