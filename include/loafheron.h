@@ -13,10 +13,19 @@
  *   staging   65,536 to 1,048,576 bytes: where events wait for the end of the weave
  *   card      0 to 16,777,216 bytes: its first `used` bytes are the records
  *   manifest  at most 65,536 bytes: how many modules there are, what a write costs, and what each module may write, read and list
- * Staging, card and manifest have the same lengths at every call as at mount; other lengths are refused with -5. A buffer
- * that is lent as `const` is not changed. Two buffers of one call must not overlap, and no pointer may be null, not even
- * with a length of 0: these two rules are C's, and the host cannot look at them. Where they are kept, and the stack suffices, every call is
- * answered.
+ *   index     a table of 32-bit numbers, of any length: entry i is the card's offset of the record with the number 1 + i. Only mount
+ *             and return, which write it, and next and look-up, which read it, are lent it
+ * Staging, card, manifest and index have the same lengths at every call that is lent them as at mount; other lengths are refused
+ * with -5. A buffer that is lent as `const` is not changed. Two buffers of one call must not overlap, and no pointer may be null, not
+ * even with a length of 0: these two rules are C's, and the host cannot look at them. Where they are kept, and the stack suffices,
+ * every call is answered.
+ *
+ * THE INDEX lets next and look-up find a record without a walk over the card. Mount fills it, whatever it held before, so it need not
+ * be kept from one mount to the next; a commit enters the new records. `index_len` counts entries and not bytes, and no alignment
+ * is asked beyond uint32_t's own. It takes one entry for each record: card_len / 136 entries are always enough, as no record is
+ * shorter than 136 bytes. Fewer will do while the card has no more records; a weave for which they do not suffice is discarded with
+ * -4, as with a full card. From mount on nobody else may change it: where an entry does not lead to a sound record with its number,
+ * next says -3 and look-up nowhere.
  *
  * ADDRESSES in a module's memory (`at`, and all inside argument records) are plain numbers that the host tests itself: a
  * wrong one is answered with -5.
@@ -40,18 +49,18 @@
  * in no argument (the memory's size, a lent length, the manifest, the state). 0 is the topic when a module call's code is -5, and
  * nothing otherwise: look at the code first.
  *
- * TWO BANDS may share a box. On a sound card, one that was mounted and that only these functions have changed since, what a module
- * call answers, and what it leaves of memory, staging and state, does not depend on what is in an event that the module is not
- * granted `in`; nor does the outcome of its return. Only how many events there are, their numbers, and how many bytes all of them
- * have can show (docs/PROMISES.md, 4). Two things are not in this promise, and are the caller's to keep from a module:
+ * TWO BANDS may share a box. On a sound card with its index, both as mount left them and as only these functions have changed them
+ * since, what a module call answers, and what it leaves of memory, staging and state, does not depend on what is in an event that the
+ * module is not granted `in`; nor does the outcome of its return. Only how many events there are, their numbers, and how many bytes
+ * all of them have can show (docs/PROMISES.md, 4). Two things are not in this promise, and are the caller's to keep from a module:
  * loafheron_look_up shows any event, and how long a call takes may tell of what it passed over.
  *
  * WHAT THE PROMISES BUILD ON. What a function answers, and what it leaves in each lent byte, is proved for every state and
  * every byte, whoever made them. Promises 2 and 3 (docs/PROMISES.md: what an outcome means, and that what was committed can be
  * had again, whole and in order) speak of a box over its whole life, and of one in which nobody but these functions changes the
- * card, the staging, the manifest or the state, and in which each state is used once, the last one: the one that the call before
- * handed back. C keeps nobody from an older state or another card. Then each answer is still the right one for what it was
- * given, but it is another box's.
+ * card, the index, the staging, the manifest or the state, and in which each state is used once, the last one: the one that the call
+ * before handed back. C keeps nobody from an older state, another card or another table. Then each answer is still the right one for
+ * what it was given, but it is another box's.
  */
 #ifndef LOAFHERON_H
 #define LOAFHERON_H
@@ -81,8 +90,8 @@ extern "C" {
 enum {
     LOAFHERON_DENIED = -1,    /* topic not granted; begin on a faulted process; a module call after a panic */
     LOAFHERON_NOT_NOW = -2,   /* no weave running (begin: one is running); ingress too late; handle not open */
-    LOAFHERON_UNSOUND = -3,   /* card, or the staged part, not sound */
-    LOAFHERON_NO_ROOM = -4,   /* staging, card, cursor table, event numbers, or out buffer shorter than the next record */
+    LOAFHERON_UNSOUND = -3,   /* a record on the card, or the staged part, not sound */
+    LOAFHERON_NO_ROOM = -4,   /* staging, card, index, cursor table, event numbers, or out buffer shorter than the next record */
     LOAFHERON_BAD = -5,       /* bad argument, lent length, state or manifest */
     LOAFHERON_BUDGET = -6,    /* this and all later module calls of the weave */
     LOAFHERON_BAD_VALUE = -7  /* value type or content */
@@ -127,6 +136,7 @@ typedef struct {
     uint64_t staging_len; /* the lengths at mount */
     uint64_t card_len;
     uint64_t manifest_len;
+    uint64_t index_len;   /* in entries */
     uint64_t used;        /* how much of the card is records: what the next mount is told */
     uint64_t next;        /* the id after the card's last */
     uint64_t faulted;     /* a module has panicked: only a new mount ends it */
@@ -144,7 +154,7 @@ typedef struct {
     loafheron_room rooms[4];
 } loafheron_state;
 
-/* What mount answers: code 0, or -5, or -3 with the offset of the first record not sound. */
+/* What mount answers: code 0, or -5, or -3 with the offset of the first record not sound. With 0 and -5 `at` is 0. */
 typedef struct {
     int64_t code;
     uint64_t at;
@@ -184,18 +194,19 @@ typedef struct {
 } loafheron_place;
 
 /* No struct has padding, so these sizes follow from the fields above. */
-#define LOAFHERON_STATE_SIZE 608
+#define LOAFHERON_STATE_SIZE 616
 LOAFHERON_ASSERT(sizeof(size_t) == 8, "Loafheron is for 64-bit machines");
 LOAFHERON_ASSERT(sizeof(loafheron_room) == 112, "loafheron_room");
 LOAFHERON_ASSERT(sizeof(loafheron_state) == LOAFHERON_STATE_SIZE, "loafheron_state");
-LOAFHERON_ASSERT(offsetof(loafheron_state, trace) == 128, "loafheron_state.trace");
-LOAFHERON_ASSERT(offsetof(loafheron_state, rooms) == 160, "loafheron_state.rooms");
-LOAFHERON_ASSERT(sizeof(loafheron_mounted) == 624, "loafheron_mounted");
-LOAFHERON_ASSERT(sizeof(loafheron_answer) == 632, "loafheron_answer");
+LOAFHERON_ASSERT(offsetof(loafheron_state, index_len) == 24, "loafheron_state.index_len");
+LOAFHERON_ASSERT(offsetof(loafheron_state, trace) == 136, "loafheron_state.trace");
+LOAFHERON_ASSERT(offsetof(loafheron_state, rooms) == 168, "loafheron_state.rooms");
+LOAFHERON_ASSERT(sizeof(loafheron_mounted) == 632, "loafheron_mounted");
+LOAFHERON_ASSERT(sizeof(loafheron_answer) == 640, "loafheron_answer");
 LOAFHERON_ASSERT(offsetof(loafheron_answer, field) == 16, "loafheron_answer.field");
 LOAFHERON_ASSERT(offsetof(loafheron_answer, state) == 24, "loafheron_answer.state");
 LOAFHERON_ASSERT(sizeof(loafheron_outcome) == 32, "loafheron_outcome");
-LOAFHERON_ASSERT(sizeof(loafheron_returned) == 640, "loafheron_returned");
+LOAFHERON_ASSERT(sizeof(loafheron_returned) == 648, "loafheron_returned");
 LOAFHERON_ASSERT(sizeof(loafheron_place) == 24, "loafheron_place");
 
 /* The number that stands for the bytes of a state in the archive's source: LOAFHERON_STATE_SIZE, or header and archive do not
@@ -204,11 +215,14 @@ LOAFHERON_ASSERT(sizeof(loafheron_place) == 24, "loafheron_place");
  * state. */
 uint64_t loafheron_state_size(void);
 
-/* Mount. Lent: staging, card, manifest; `used` bytes of the card are records. Changes no byte.
- * -5: sizes, used length or manifest. -3: a record is not sound, and `at` is its offset. */
+/* Mount. Lent: staging, card, manifest, index; `used` bytes of the card are records. Accepted, it sets the entries of these records
+ * in the index; the other entries stay. Refused, it changes nothing.
+ * -5: sizes, used length or manifest. -3: a record is not sound, and `at` is its offset. -5 again, which is looked at last: the index
+ * has fewer entries than the card has records. */
 LOAFHERON_KEEP
 loafheron_mounted loafheron_mount(const uint8_t *staging, size_t staging_len, const uint8_t *card, size_t card_len,
-                                  const uint8_t *manifest, size_t manifest_len, uint64_t used);
+                                  const uint8_t *manifest, size_t manifest_len, uint32_t *index, size_t index_len,
+                                  uint64_t used);
 
 /* Begin a weave. `args`: the 128 bytes of FilamentWeaveArgs; used are res_max at 24, virt_time at 48, trace at 56.
  * Answers 0: staging is all 0, module 1 has its turn. -5, -2 (a weave is running), -1 (faulted): nothing changes. Begin is no
@@ -255,12 +269,15 @@ loafheron_answer loafheron_open(loafheron_state state, const uint8_t *memory, si
                                 size_t manifest_len, uint64_t at);
 
 /* filament_tl_next, 24 bytes: the longest run of remaining records that fits whole. Answers the bytes written to memory,
- * 0 at the end of the list. -2: handle not open. -3: card not sound. -4: the out buffer is shorter than the next record.
- * Field of a -5: out_ptr. */
+ * 0 at the end of the list. It looks at the records of the cursor's window that the card has, in its order, from its place through
+ * the one that ends the page: a listed one that no longer fits, the last that the limit allows, or the window's last. Each is found
+ * by its entry in the index. With an empty window or a limit of 0 it looks at none. -2: handle not open. -3: a record that it looked
+ * at is not sound or has another number, or the index has no entry for it; those that it did not look at do not count. -4: the out
+ * buffer is shorter than the next record. Field of a -5: out_ptr. */
 LOAFHERON_KEEP
 loafheron_answer loafheron_next(loafheron_state state, uint8_t *memory, size_t memory_len, const uint8_t *staging,
                                 size_t staging_len, const uint8_t *card, size_t card_len, const uint8_t *manifest,
-                                size_t manifest_len, uint64_t at);
+                                size_t manifest_len, const uint32_t *index, size_t index_len, uint64_t at);
 
 /* filament_tl_close, 8 bytes: answers 0. -2: handle not open. No field of its own: a handle that is not open is -2 and no -5. */
 LOAFHERON_KEEP
@@ -269,18 +286,24 @@ loafheron_answer loafheron_close(loafheron_state state, const uint8_t *memory, s
                                  size_t manifest_len, uint64_t at);
 
 /* A module has returned with a code. Refused (-5, -2): nothing changes. Running: the next module has its turn.
- * Committed: the staged bytes stand on the card, behind the used part; no other card byte changes. Discarded: the card is
- * as before begin. After both of these staging is all 0. */
+ * Committed: the staged bytes stand on the card, behind the used part, and the entries of the new records in the index; no other card
+ * byte and no other entry changes. Discarded: card and index are as before begin. After both of these staging is all 0.
+ * Why discarded: the weave is spoiled (-6, -1); a code from -7 to -1, which is then the reason; any other code but 0 and 1 (-5). And
+ * at the last module's return, in this order: the staged part is not sound (-3); it does not fit the card (-4); the index has fewer
+ * entries than there are records on the card and staged events together (-4), which is asked also where none is staged. */
 LOAFHERON_KEEP
 loafheron_returned loafheron_return(loafheron_state state, uint8_t *staging, size_t staging_len, uint8_t *card,
-                                    size_t card_len, const uint8_t *manifest, size_t manifest_len, int64_t code);
+                                    size_t card_len, const uint8_t *manifest, size_t manifest_len, uint32_t *index,
+                                    size_t index_len, int64_t code);
 
-/* The record with this id: on the card for ids below `next`, else among the staged bytes. Changes nothing.
- * Nowhere: there is none, check 1 fails, or the walk to it meets an unsound record, itself included.
+/* The record with this id: on the card for ids below `next`, by its entry in the index, else among the staged bytes. Changes nothing.
+ * Nowhere: there is none, or check 1 fails. On the card also: the record is not sound or has another number, or the index has no entry
+ * for it; no other record counts. In staging also: the walk to it meets an unsound record, itself included.
  * It is the record as the card holds it: the topic of an old card may have byte 127, so mind what you print it on. */
 LOAFHERON_KEEP
 loafheron_place loafheron_look_up(loafheron_state state, const uint8_t *staging, size_t staging_len, const uint8_t *card,
-                                  size_t card_len, const uint8_t *manifest, size_t manifest_len, uint64_t id);
+                                  size_t card_len, const uint8_t *manifest, size_t manifest_len, const uint32_t *index,
+                                  size_t index_len, uint64_t id);
 
 #ifdef __cplusplus
 }

@@ -1,9 +1,9 @@
 /* The archive as a program: it is told its calls on standard input and answers on standard output, so that a test need not be
  * compiled for the same kind of machine. rust/src/lent/piped.rs is the other side. All numbers are 64 bits, the lowest byte first.
  *
- * It has the four buffers of include/loafheron.h. Each, and each lent text, ends where a forbidden page begins: one byte read or
- * written behind it ends the program. After each call every byte of all four is compared with a copy, and what has changed is told,
- * whatever the buffer was lent as. */
+ * It has the five buffers of include/loafheron.h. Each, and each lent text, ends where a forbidden page begins: one byte read or
+ * written behind it ends the program. After each call every byte of all five is compared with a copy, and what has changed is told,
+ * whatever the buffer was lent as, and where it was not lent at all. */
 #include "loafheron.h"
 
 #include <stdio.h>
@@ -11,7 +11,7 @@
 #include <string.h>
 #include <sys/mman.h>
 
-enum { MEMORY, STAGING, CARD, MANIFEST, BUFFERS, FIRST = BUFFERS, SECOND, ALL };
+enum { MEMORY, STAGING, CARD, MANIFEST, INDEX, BUFFERS, FIRST = BUFFERS, SECOND, ALL };
 enum { ASK_SIZE, ASK_LEND, ASK_POKE, ASK_CALL, ASK_STEP_OVER };
 enum { MOUNT, BEGIN, INGRESS, WRITE, READ, OPEN, NEXT, CLOSE, RETURN, LOOK_UP };
 
@@ -109,6 +109,8 @@ static void put_changes(void) {
 
 #define SLICE(which) start(&lent[which]), lent[which].len
 #define BOX SLICE(STAGING), SLICE(CARD), SLICE(MANIFEST)
+/* its bytes end at a page, and are as many as entries are long: so it begins where an entry may */
+#define TABLE (uint32_t *)(void *)start(&lent[INDEX]), lent[INDEX].len / sizeof(uint32_t)
 
 static void put_answer(loafheron_answer a) { put(&a, sizeof a); }
 
@@ -123,7 +125,7 @@ static void call(void) {
     lend(&lent[SECOND], second);
     switch (function) {
     case MOUNT: {
-        loafheron_mounted m = loafheron_mount(BOX, n);
+        loafheron_mounted m = loafheron_mount(BOX, TABLE, n);
         put(&m, sizeof m);
         break;
     }
@@ -132,15 +134,15 @@ static void call(void) {
     case WRITE: put_answer(loafheron_write(s, SLICE(MEMORY), BOX, n)); break;
     case READ: put_answer(loafheron_read(s, SLICE(MEMORY), BOX, n)); break;
     case OPEN: put_answer(loafheron_open(s, SLICE(MEMORY), BOX, n)); break;
-    case NEXT: put_answer(loafheron_next(s, SLICE(MEMORY), BOX, n)); break;
+    case NEXT: put_answer(loafheron_next(s, SLICE(MEMORY), BOX, TABLE, n)); break;
     case CLOSE: put_answer(loafheron_close(s, SLICE(MEMORY), BOX, n)); break;
     case RETURN: {
-        loafheron_returned r = loafheron_return(s, BOX, (int64_t)n);
+        loafheron_returned r = loafheron_return(s, BOX, TABLE, (int64_t)n);
         put(&r, sizeof r);
         break;
     }
     case LOOK_UP: {
-        loafheron_place p = loafheron_look_up(s, BOX, n);
+        loafheron_place p = loafheron_look_up(s, BOX, TABLE, n);
         put(&p, sizeof p);
         break;
     }
@@ -165,7 +167,11 @@ static void question(uint64_t asked) {
     case ASK_SIZE: put_number(loafheron_state_size()); break;
     case ASK_LEND:
         f = buffer();
-        lend(f, number());
+        n = number();
+        if (f == &lent[INDEX] && n % sizeof(uint32_t) != 0) {
+            quit("an index of so many bytes has no whole entries");
+        }
+        lend(f, n);
         keep_copy(f);
         return;
     case ASK_POKE:

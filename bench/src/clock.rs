@@ -5,10 +5,13 @@ use std::time::{Duration, Instant};
 const WARM_UP: usize = 5;
 const ROUNDS: usize = 51;
 
-fn time(side: &mut dyn FnMut() -> u64) -> Duration {
+/// So many calls, one behind the other, and the time of one.
+fn time(calls: u32, side: &mut dyn FnMut() -> u64) -> Duration {
     let start = Instant::now();
-    black_box(side());
-    start.elapsed()
+    for _ in 0..calls {
+        black_box(side());
+    }
+    start.elapsed() / calls
 }
 
 fn micros(d: Duration) -> f64 {
@@ -26,26 +29,33 @@ fn best(mut times: Vec<Duration>) -> (f64, f64) {
     (micros(times[0]), micros(times[times.len() / 2]))
 }
 
-/// A row that has no other side.
-pub fn alone(name: &str, ours: &mut dyn FnMut() -> u64) {
-    ours();
-    let (best, mid) = best((0..11).map(|_| time(ours)).collect());
-    println!("| {name} | {best:.1} | | | {mid:.1} | |");
+/// Short times with one place more.
+fn shown(micros: f64) -> String {
+    if micros < 10.0 {
+        format!("{micros:.2}")
+    } else {
+        format!("{micros:.1}")
+    }
 }
 
 /// One row of the table. Before it is timed, both sides give the same answer.
 pub fn row(name: &str, ours: &mut dyn FnMut() -> u64, rusts: &mut dyn FnMut() -> u64) {
+    row_of(name, 1, ours, rusts);
+}
+
+/// The same for calls that are short beside the clock: so many at a time.
+pub fn row_of(name: &str, calls: u32, ours: &mut dyn FnMut() -> u64, rusts: &mut dyn FnMut() -> u64) {
     assert_eq!(ours(), rusts(), "{name}");
     let (mut a, mut b) = (Vec::new(), Vec::new());
     for round in 0..WARM_UP + ROUNDS {
         // each side goes first in every other round
         let (x, y);
         if round % 2 == 0 {
-            x = time(ours);
-            y = time(rusts);
+            x = time(calls, ours);
+            y = time(calls, rusts);
         } else {
-            y = time(rusts);
-            x = time(ours);
+            y = time(calls, rusts);
+            x = time(calls, ours);
         }
         if WARM_UP <= round {
             a.push(x);
@@ -53,5 +63,7 @@ pub fn row(name: &str, ours: &mut dyn FnMut() -> u64, rusts: &mut dyn FnMut() ->
         }
     }
     let ((best, mid), (theirs, their_mid)) = (best(a), best(b));
-    println!("| {name} | {best:.1} | {theirs:.1} | {:.2} | {mid:.1} | {their_mid:.1} |", best / theirs);
+    let ratio = best / theirs;
+    let [best, theirs, mid, their_mid] = [best, theirs, mid, their_mid].map(shown);
+    println!("| {name} | {best} | {theirs} | {ratio:.2} | {mid} | {their_mid} |");
 }

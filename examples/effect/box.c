@@ -8,6 +8,8 @@
 
 #define MANIFEST(b) (const uint8_t *)(b)->manifest, strlen((b)->manifest)
 #define LENT(b) (b)->staging, STAGING, (b)->card, (b)->card_len, MANIFEST(b)
+/* besides, to mount, next, return and look-up */
+#define INDEX(b) (b)->index, ENTRIES
 
 /* The name of the field that a -5 is for. The same number is another field in another call, so each call has its own. */
 typedef const char *field_name(uint64_t field);
@@ -76,7 +78,8 @@ uint64_t Z_filamentZ_filament_tl_open(box *b, uint64_t at) {
 }
 
 uint64_t Z_filamentZ_filament_tl_next(box *b, uint64_t at) {
-    return settle(b, "tl_next", next_field, loafheron_next(b->state, b->memory->data, b->memory->size, LENT(b), at));
+    return settle(b, "tl_next", next_field,
+                  loafheron_next(b->state, b->memory->data, b->memory->size, LENT(b), INDEX(b), at));
 }
 
 uint64_t Z_filamentZ_filament_tl_close(box *b, uint64_t at) {
@@ -85,7 +88,7 @@ uint64_t Z_filamentZ_filament_tl_close(box *b, uint64_t at) {
 
 int64_t box_mount(box *b, size_t card_len, uint64_t used) {
     b->card_len = card_len;
-    loafheron_mounted m = loafheron_mount(LENT(b), used);
+    loafheron_mounted m = loafheron_mount(LENT(b), INDEX(b), used);
     b->state = m.state;
     printf("mount %" PRId64 ", the next number is %" PRIu64 "\n", m.code, m.state.next);
     return m.code;
@@ -103,7 +106,7 @@ int64_t box_begin(box *b, uint64_t res_max, uint64_t virt_time) {
 
 void box_return(box *b, int64_t code) {
     static const char *const kinds[] = {"refused", "discarded", "running", "committed"};
-    loafheron_returned r = loafheron_return(b->state, LENT(b), code);
+    loafheron_returned r = loafheron_return(b->state, LENT(b), INDEX(b), code);
     const loafheron_outcome *o = &r.outcome;
     b->state = r.state;
     if (o->kind > LOAFHERON_COMMITTED) {
@@ -134,7 +137,7 @@ static uint64_t field(const uint8_t *record, size_t at, size_t width) {
 
 void box_show(const box *b) {
     for (uint64_t id = 1; id < b->state.next; id++) {
-        loafheron_place p = loafheron_look_up(b->state, LENT(b), id);
+        loafheron_place p = loafheron_look_up(b->state, LENT(b), INDEX(b), id);
         if (p.buffer != LOAFHERON_ON_CARD) {
             printf("card %" PRIu64 ": not there\n", id);
             continue;

@@ -5,7 +5,8 @@
 #include "loafheron.h"
 #include "wasm-rt.h"
 
-enum { STAGING = 65536, CARD = 65536, WEAVE_ARGS = 128, ARGS_AT = 1024 };
+/* no record is shorter than 136 bytes: so many entries are always enough */
+enum { STAGING = 65536, CARD = 65536, ENTRIES = CARD / 136, WEAVE_ARGS = 128, ARGS_AT = 1024 };
 
 /* wasm2c hands this to every import of the module name `filament`. */
 typedef struct Z_filament_instance_t {
@@ -13,6 +14,7 @@ typedef struct Z_filament_instance_t {
     uint8_t staging[STAGING];
     uint8_t card[CARD];
     size_t card_len;
+    uint32_t index[ENTRIES]; /* where each record of the card lies: mount fills it */
     const char *manifest;
     wasm_rt_memory_t *memory; /* of the module whose turn it is */
 } box;

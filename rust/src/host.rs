@@ -20,6 +20,10 @@ pub struct Refused {
 /// A mounted box. While it lives nobody else writes its buffers, and each state is used once, the last one: this is what promises 2
 /// and 3 build on.
 ///
+/// Among its buffers is the index, a table with the card's offset of each record, by which next and look-up find one without a walk over the card.
+/// Mount fills it, and a commit enters the new records. A card of n bytes never needs more than n / 136 entries: [`Buffers::new`] makes so many. A
+/// table with fewer entries than the card has records is -5 at mount; at the last return one with too few for what is staged is a discard with -4.
+///
 /// A topic has 1 to 2,048 bytes, a filter 0 to 64, in UTF-8 with no control byte (0 to 31, and 127): else -5, in a call, at ingress and in
 /// the manifest. A record from before may have byte 127 in its topic: the card mounts, look-up shows it, and no list and no read has it.
 ///
@@ -35,14 +39,14 @@ pub struct Host {
 }
 
 impl Host {
-    pub fn mount(buffers: Buffers, used: u64) -> Result<Host, Box<Refused>> {
+    pub fn mount(mut buffers: Buffers, used: u64) -> Result<Host, Box<Refused>> {
         let archive = Here::default();
         assert_eq!(
             archive.state_size(),
             size_of::<State>() as u64,
             "this crate and the archive do not belong together"
         );
-        let m = archive.mount(&buffers, used);
+        let m = archive.mount(&mut buffers, used);
         match m.code {
             0 => Ok(Host { archive, state: m.state, buffers }),
             code => Err(Box::new(Refused { code: lent::refusal(code), at: m.at, buffers })),
@@ -88,6 +92,7 @@ impl Host {
         self.settle_module(ModuleCall::Open, |archive, state, b| archive.open(state, memory, b, at))
     }
 
+    /// It looks at the records from the cursor's place through the one that ends the page, and at no others.
     pub fn next(&mut self, memory: &mut [u8], at: u64) -> ModuleAnswer {
         self.settle_module(ModuleCall::Next, |archive, state, b| archive.next(state, memory, b, at))
     }
@@ -102,8 +107,8 @@ impl Host {
         lent::fate(r.outcome)
     }
 
-    /// The record with this id, on the card or in the staging; empty where there is none. It is the record as the card holds it: the topic of
-    /// an old card may have byte 127, so mind what you print it on.
+    /// The record with this id, on the card by its entry in the index, or in the staging; empty where there is none. It is the record as the card
+    /// holds it: the topic of an old card may have byte 127, so mind what you print it on.
     #[must_use]
     pub fn look_up(&self, id: u64) -> &[u8] {
         match lent::place(self.archive.look_up(self.state, &self.buffers, id)) {

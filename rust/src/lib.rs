@@ -6,10 +6,15 @@
 //!
 //! # What the promises build on
 //!
-//! Promises 2 and 3 (docs/PROMISES.md) speak of a box whose card, staging, manifest and state nobody else changes, and in which each
-//! state is used once, the last one. [`host::Host`] keeps to that: it owns all four and hands none out before its end. Who calls
+//! Promises 2 and 3 (docs/PROMISES.md) speak of a box whose card, index, staging, manifest and state nobody else changes, and in which each
+//! state is used once, the last one. [`host::Host`] keeps to that: it owns all five and hands none out before its end. Who calls
 //! [`raw`] himself, in unsafe code, keeps to it himself. What each function answers, and what it leaves in each lent byte, is proved
 //! for every state and every byte, whoever made them.
+//!
+//! # The index
+//!
+//! Beside the card a table is lent with the offset of each record, so that a page or a look-up costs what its records cost, however large
+//! the card is. [`host::Buffers::new`] makes one that is always long enough; what becomes of a shorter one is told at [`host::Host`].
 //!
 //! # What a call costs
 //!
@@ -23,10 +28,10 @@
 //!
 //! # Two bands, one box
 //!
-//! On a sound card, as a mounted [`host::Host`] has it, what a module call answers, and what it leaves of memory, staging and state, does
-//! not depend on what is in an event that the module is not granted `in`; nor does the outcome of its return. Only how many events there
-//! are, their numbers, and how many bytes all of them have can show (docs/PROMISES.md, 4). [`host::Host::look_up`] and
-//! [`host::Host::used`] are not for modules: they show any event. How long a call takes is not promised.
+//! On a sound card with its index, as a mounted [`host::Host`] has both, what a module call answers, and what it leaves of memory, staging
+//! and state, does not depend on what is in an event that the module is not granted `in`; nor does the outcome of its return. Only how
+//! many events there are, their numbers, and how many bytes all of them have can show (docs/PROMISES.md, 4).
+//! [`host::Host::look_up`] and [`host::Host::used`] are not for modules: they show any event. How long a call takes is not promised.
 //!
 //! # On which machines
 //!
@@ -37,7 +42,7 @@
 //! use loafheron::host::{Buffers, Fate, Field, Host, Refusal};
 //!
 //! let manifest = b"modules\t1\ngrant\t1\tout\tloop/take\n".to_vec();
-//! let buffers = Buffers { staging: vec![0; 65_536], card: vec![0; 65_536], manifest };
+//! let buffers = Buffers::new(vec![0; 65_536], vec![0; 65_536], manifest);
 //! let mut host = Host::mount(buffers, 0).unwrap_or_else(|refused| panic!("{}", refused.code));
 //! let mut weave = [0; 128];
 //! weave[24] = 100; // res_max

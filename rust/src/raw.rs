@@ -19,6 +19,7 @@ pub struct State {
     pub staging_len: u64,
     pub card_len: u64,
     pub manifest_len: u64,
+    pub index_len: u64,
     pub used: u64,
     pub next: u64,
     pub faulted: u64,
@@ -94,6 +95,7 @@ impl State {
         staging_len: 0,
         card_len: 0,
         manifest_len: 0,
+        index_len: 0,
         used: 0,
         next: 0,
         faulted: 0,
@@ -113,10 +115,11 @@ impl State {
 }
 
 // The same numbers stand in include/loafheron.h; tests/sizes measures them in the archive.
-const _: () = assert!(size_of::<Room>() == 112 && size_of::<State>() == 608);
-const _: () = assert!(size_of::<Mounted>() == 624 && size_of::<Answer>() == 632);
+const _: () = assert!(size_of::<Room>() == 112 && size_of::<State>() == 616);
+const _: () = assert!(offset_of!(State, index_len) == 24 && offset_of!(State, trace) == 136);
+const _: () = assert!(size_of::<Mounted>() == 632 && size_of::<Answer>() == 640);
 const _: () = assert!(offset_of!(Answer, field) == 16 && offset_of!(Answer, state) == 24);
-const _: () = assert!(size_of::<Outcome>() == 32 && size_of::<Returned>() == 640 && size_of::<Place>() == 24);
+const _: () = assert!(size_of::<Outcome>() == 32 && size_of::<Returned>() == 648 && size_of::<Place>() == 24);
 
 // The archive itself, where it is linked: on x86-64.
 #[cfg(linked)]
@@ -129,6 +132,8 @@ extern "C" {
         card_len: usize,
         manifest: *const u8,
         manifest_len: usize,
+        index: *mut u32,
+        index_len: usize,
         used: u64,
     ) -> Mounted;
     pub fn loafheron_begin(
@@ -201,6 +206,8 @@ extern "C" {
         card_len: usize,
         manifest: *const u8,
         manifest_len: usize,
+        index: *const u32,
+        index_len: usize,
         at: u64,
     ) -> Answer;
     pub fn loafheron_close(
@@ -223,6 +230,8 @@ extern "C" {
         card_len: usize,
         manifest: *const u8,
         manifest_len: usize,
+        index: *mut u32,
+        index_len: usize,
         code: i64,
     ) -> Returned;
     pub fn loafheron_look_up(
@@ -233,6 +242,8 @@ extern "C" {
         card_len: usize,
         manifest: *const u8,
         manifest_len: usize,
+        index: *const u32,
+        index_len: usize,
         id: u64,
     ) -> Place;
 }

@@ -4,7 +4,7 @@ use loafheron::host::{self, Buffers, Fate, Field, Host, Refusal};
 const MANIFEST: &[u8] = b"modules\t1\ngrant\t1\tout\tloop/take\ngrant\t1\tin\tloop/take\n";
 
 fn buffers() -> Buffers {
-    Buffers { staging: vec![0; 65_536], card: vec![0; 65_536], manifest: MANIFEST.to_vec() }
+    Buffers::new(vec![0; 65_536], vec![0; 65_536], MANIFEST.to_vec())
 }
 
 fn weave(res_max: u64, time: u64) -> Vec<u8> {

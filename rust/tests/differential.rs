@@ -13,6 +13,7 @@ fn the_host_and_its_twin_agree() {
     every_answer_came_up(&run);
     both_charges_came_up(&run);
     every_field_came_up(&run);
+    every_table_came_up(&run);
 }
 
 fn all_said(run: &differ::Run, call: &'static str, answers: &[&str]) {
@@ -64,6 +65,37 @@ fn every_field_came_up(run: &differ::Run) {
     // of the twin itself: another code has no field
     let other = run.tally.keys().find(|(_, answer)| answer.contains("the field"));
     assert_eq!(other, None, "a field beside another code than -5");
+}
+
+/// What a wrong number is looked at for, in the words of the tally: no entry, an offset outside, another's record, no sound record.
+const CAUSES: [&str; 4] = ["no entry", "outside", "another", "no record"];
+
+/// Tables that fit, that are too short, that have another length, that are wrong where it is looked at and where it is not (02, A9).
+fn every_table_came_up(run: &differ::Run) {
+    all_said(run, "mount", &["0, table full", "0, entries over", "-5, table short", "-5, one entry short"]);
+    all_said(run, "mount", &["-3, table short too"]);
+    all_said(run, "return", &["committed, table full", "committed, entries over", "-4, one entry short"]);
+    all_said(
+        run,
+        "return",
+        &["-4, table short", "-4, short, none staged", "-4, card and table short", "-4, card short"],
+    );
+    all_said(run, "return", &["-3, table short too", "refused for the table", "-5 before -2, table"]);
+    for cause in CAUSES {
+        all_said(run, "tl_next", &[&format!("-3, {cause}")]);
+        all_said(run, "look-up", &[&format!("nowhere, {cause}")]);
+    }
+    all_said(run, "look-up", &["as the walk says", "not by a walk", "a fault elsewhere", "refused for the table"]);
+    for way in ["upward", "downward"] {
+        // looked at: at once, and behind records that would have been handed over
+        all_said(run, "tl_next", &[&format!("-3 {way}, first"), &format!("-3 {way}, after some")]);
+        // not looked at: behind the page, and outside the window
+        all_said(run, "tl_next", &[&format!("{way}, fault behind"), &format!("{way}, fault outside")]);
+        all_said(run, "tl_next", &[&format!("{way}, window above"), &format!("{way}, window cut")]);
+    }
+    all_said(run, "tl_next", &["behind: an entry alone", "behind: a record", "-4, fault behind", "-3, no room left"]);
+    all_said(run, "tl_next", &["0, no number, a fault", "0, limit 0, a fault", "window below", "no window"]);
+    all_said(run, "tl_next", &["-3 before -6", "refused for the table", "-5 before -2, table", "as the walk says"]);
 }
 
 /// A run that never saw an answer says nothing about it: each code of each operation came up, and byte 127 wherever a topic stands.

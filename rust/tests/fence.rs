@@ -6,7 +6,7 @@ use loafheron::differ::{self, Way};
 use std::alloc::{GlobalAlloc, Layout, System};
 
 const PAGE: usize = 4_096;
-/// smaller pieces are nobody's buffers
+/// smaller pieces of bytes are nobody's buffers
 const FENCED: usize = 256;
 const READ_WRITE: i32 = 3;
 const PRIVATE_ANONYMOUS: i32 = 0x22;
@@ -24,9 +24,19 @@ fn whole(size: usize) -> usize {
     size.next_multiple_of(PAGE)
 }
 
+/// Bytes; and all that is made of 32-bit numbers, however small, as a table of a few entries is a buffer too. Such a piece is a whole number of
+/// them, so that it may end at a page.
+fn fenced(layout: &Layout) -> bool {
+    match layout.align() {
+        1 => FENCED <= layout.size(),
+        4 => layout.size() % 4 == 0,
+        _ => false,
+    }
+}
+
 unsafe impl GlobalAlloc for Fence {
     unsafe fn alloc(&self, layout: Layout) -> *mut u8 {
-        if layout.size() < FENCED || layout.align() > 1 {
+        if !fenced(&layout) {
             return System.alloc(layout);
         }
         let pages = whole(layout.size());
@@ -38,7 +48,7 @@ unsafe impl GlobalAlloc for Fence {
     }
 
     unsafe fn dealloc(&self, at: *mut u8, layout: Layout) {
-        if layout.size() < FENCED || layout.align() > 1 {
+        if !fenced(&layout) {
             return System.dealloc(at, layout);
         }
         let pages = whole(layout.size());

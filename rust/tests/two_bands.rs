@@ -3,9 +3,11 @@ use loafheron::differ::bands::{lives, APART};
 use loafheron::differ::{Tally, Way};
 
 /// A run in which one of these did not come up says nothing about it.
-const WANTED: [(&str, &[&str]); 8] = [
+const WANTED: [(&str, &[&str]); 9] = [
     ("cards", &["differ", "one of many hidden takes differs", "all hidden takes differ"]),
     ("cards", &["hidden takes cut elsewhere", "granted takes moved", "no take granted", "first take granted"]),
+    // each has its own table, and it fits
+    ("tables", &["differ"]),
     ("write", &["0", "-1", "-5", "-6", "-7"]),
     ("read", &["0", "above 0", "-1", "-4", "-5", "-6"]),
     ("tl_open", &["above 0", "-4", "-5", "-6"]),

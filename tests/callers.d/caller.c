@@ -33,24 +33,27 @@
 #endif
 
 #define LENT staging, 65536, card, 65536, manifest, 10
+#define INDEX index, 65536 / 136
 #define MEMORY memory, 4096
 
-uint64_t caller(uint8_t *memory, uint8_t *staging, uint8_t *card, const uint8_t *manifest, const uint8_t *args);
+uint64_t caller(uint8_t *memory, uint8_t *staging, uint8_t *card, const uint8_t *manifest, uint32_t *index,
+                const uint8_t *args);
 
-uint64_t caller(uint8_t *memory, uint8_t *staging, uint8_t *card, const uint8_t *manifest, const uint8_t *args) {
+uint64_t caller(uint8_t *memory, uint8_t *staging, uint8_t *card, const uint8_t *manifest, uint32_t *index,
+                const uint8_t *args) {
     loafheron_mounted m = {};
     loafheron_answer a = {};
     loafheron_returned r = {};
     loafheron_place p = {};
-    KEEP_MOUNT loafheron_mount(LENT, 0);
+    KEEP_MOUNT loafheron_mount(LENT, INDEX, 0);
     KEEP_BEGIN loafheron_begin(m.state, LENT, args, 128);
     KEEP_INGRESS loafheron_ingress(a.state, LENT, args, 1, args, 1);
     KEEP_WRITE loafheron_write(a.state, MEMORY, LENT, 8);
     KEEP_READ loafheron_read(a.state, MEMORY, LENT, 8);
     KEEP_OPEN loafheron_open(a.state, MEMORY, LENT, 8);
-    KEEP_NEXT loafheron_next(a.state, MEMORY, LENT, 8);
+    KEEP_NEXT loafheron_next(a.state, MEMORY, LENT, INDEX, 8);
     KEEP_CLOSE loafheron_close(a.state, MEMORY, LENT, 8);
-    KEEP_RETURN loafheron_return(a.state, LENT, 0);
-    KEEP_LOOK_UP loafheron_look_up(r.state, LENT, 1);
+    KEEP_RETURN loafheron_return(a.state, LENT, INDEX, 0);
+    KEEP_LOOK_UP loafheron_look_up(r.state, LENT, INDEX, 1);
     return r.outcome.kind + p.len;
 }

@@ -34,7 +34,7 @@ fn caller(host: &mut Host, memory: &mut [u8]) -> ([Answer; 2], [ModuleAnswer; 5]
 }
 
 fn main() {
-    let buffers = Buffers { staging: vec![0; 65_536], card: vec![0; 65_536], manifest: b"modules\t1\n".to_vec() };
+    let buffers = Buffers::new(vec![0; 65_536], vec![0; 65_536], b"modules\t1\n".to_vec());
     #[cfg(drops_mount)]
     Host::mount(buffers.clone(), 0);
     let mut host = Host::mount(buffers, 0).ok().unwrap();

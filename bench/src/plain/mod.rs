@@ -1,6 +1,7 @@
 //! The other side: the same operations in plain Rust, written as one would write them, with the same checks of documents 01
-//! and 02 in the same order as far as these calls meet them. The manifest is read at every call, next and the last return walk all the
-//! records they speak of. Only the field of a -5 is left out, as no call that is measured is refused.
+//! and 02 in the same order as far as these calls meet them. The manifest is read at every call, the last return walks all that is staged, next
+//! and look-up find each record that they look at by the index and test it whole. Only the field of a -5 is left out, as no call that is measured
+//! is refused.
 mod bytes;
 mod calls;
 mod manifest;
@@ -12,6 +13,8 @@ pub struct Plain {
     pub used: usize,
     pub next: u64,
     lengths: [usize; 3],
+    /// of the index
+    entries: usize,
     running: bool,
     spoiled: Option<i64>,
     turn: u64,

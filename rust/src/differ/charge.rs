@@ -116,7 +116,7 @@ fn for_the_line(call: &Call, was: &State, lent: &Lent) -> bool {
     let Some(manifest) = mended(&lent.manifest) else { return false };
     let (mut state, mut lent) = (*was, lent.clone());
     // it may have another length
-    if state.lengths == lent.lengths() {
+    if state.lengths.manifest == lent.lengths().manifest {
         state.lengths.manifest = manifest.len() as u64;
     }
     lent.manifest = manifest;

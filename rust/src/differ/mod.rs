@@ -5,6 +5,7 @@ mod charge;
 mod del;
 mod dice;
 mod field;
+mod index;
 mod lives;
 mod stock;
 mod twin;

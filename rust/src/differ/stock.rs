@@ -253,6 +253,11 @@ pub fn card(d: &mut Dice, records: u64, topics: &[Vec<u8>]) -> Vec<u8> {
     (1..=records).flat_map(|id| event(d, id, topics).stored()).collect()
 }
 
+/// A table of so many entries, with anything in it: mount does not ask what it held.
+pub fn table(d: &mut Dice, entries: u64) -> Vec<u32> {
+    (0..entries).map(|_| d.word() as u32).collect()
+}
+
 #[cfg(test)]
 mod tests {
     use super::*;

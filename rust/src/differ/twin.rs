@@ -1,9 +1,10 @@
 //! The model and the archive side by side: one call goes to both, and everything is compared.
-use super::{charge, del, field, view};
+use super::{charge, del, field, index, view};
 use crate::lent::{self, Buffers, Caller, Fate, ModuleCall, Place};
 use crate::model::{self, Fault, Lent, State};
 use crate::raw;
 use std::collections::BTreeMap;
+use std::fmt::Debug;
 use std::rc::Rc;
 
 #[derive(Clone, Debug)]
@@ -43,7 +44,8 @@ pub struct Difference(pub String);
 
 pub type Agreed<T> = Result<T, Difference>;
 
-/// How often each operation gave each answer; and among these, how often byte 127 or a charge rule had to do with it, and for which field a -5 was.
+/// How often each operation gave each answer; and among these, how often byte 127, a charge rule or the table had to do with it, and for which
+/// field a -5 was.
 pub type Tally = BTreeMap<(&'static str, String), u64>;
 
 pub struct Twin {
@@ -103,6 +105,12 @@ impl Twin {
         }
     }
 
+    /// Another table on both sides; the one before is handed back.
+    pub fn lend_index(&mut self, index: Vec<u32>) -> Vec<u32> {
+        self.buffers.index = index.clone();
+        std::mem::replace(&mut self.lent.index, index)
+    }
+
     /// One call to both sides.
     pub fn call(&mut self, call: Call) -> Agreed<Said> {
         self.call_from(view::state(&self.state), call)
@@ -118,7 +126,8 @@ impl Twin {
                 println!("       from a state with {}", fields(&plain, &before));
             }
         }
-        let (was, cursor) = (self.state, del::cursor(&call, &self.state, &self.lent));
+        let was = self.state;
+        let (cursor, asked) = (del::cursor(&call, &was, &self.lent), index::asked(&call, &was, &self.lent));
         let models = models(&mut self.state, &mut self.lent, &call);
         let (ours, state) = self.ours(&call, before);
         self.calls += 1;
@@ -128,19 +137,25 @@ impl Twin {
         let expected = view::state(&self.state);
         self.compare(models == ours, || format!("the model says {models:?}, the host {ours:?}"), &call)?;
         self.compare(state == expected, || differ(&expected, &state), &call)?;
-        self.compare(self.memory == self.lent.memory, || bytes("memory", &self.lent.memory, &self.memory), &call)?;
-        let (m, o) = (&self.lent, &self.buffers);
-        self.compare(o.staging == m.staging, || bytes("staging", &m.staging, &o.staging), &call)?;
-        self.compare(o.card == m.card, || bytes("card", &m.card, &o.card), &call)?;
-        self.compare(o.manifest == m.manifest, || bytes("manifest", &m.manifest, &o.manifest), &call)?;
+        self.compare_buffers(&call)?;
         let del = del::met(&call, &models, cursor, &self.state, &self.lent);
         let charge = self.charged.met(&call, &models, &was, &self.state, &self.lent);
+        let index = index::met(&call, &models, asked, &was, &self.lent);
         let field = field::met(&call, &models, &self.state, &self.lent);
-        let met = del.into_iter().chain(charge).map(String::from).chain(field);
+        let met = del.into_iter().chain(charge).map(String::from).chain(index).chain(field);
         for what in std::iter::once(short(&models)).chain(met) {
             *self.tally.entry((name(&call), what)).or_insert(0) += 1;
         }
         Ok(models)
+    }
+
+    fn compare_buffers(&self, call: &Call) -> Agreed<()> {
+        let (m, o) = (&self.lent, &self.buffers);
+        self.compare(self.memory == m.memory, || bytes("memory", &m.memory, &self.memory), call)?;
+        self.compare(o.staging == m.staging, || bytes("staging", &m.staging, &o.staging), call)?;
+        self.compare(o.card == m.card, || bytes("card", &m.card, &o.card), call)?;
+        self.compare(o.manifest == m.manifest, || bytes("manifest", &m.manifest, &o.manifest), call)?;
+        self.compare(o.index == m.index, || bytes("index", &m.index, &o.index), call)
     }
 
     fn compare(&self, same: bool, why: impl FnOnce() -> String, call: &Call) -> Agreed<()> {
@@ -306,8 +321,9 @@ fn differ(model: &raw::State, ours: &raw::State) -> String {
     format!("the model's state and the host's differ: {}", fields(model, ours))
 }
 
-fn bytes(name: &str, model: &[u8], ours: &[u8]) -> String {
+/// The bytes of a buffer, or the entries of the table.
+fn bytes<T: Copy + PartialEq + Debug>(name: &str, model: &[T], ours: &[T]) -> String {
     let at = model.iter().zip(ours).position(|(a, b)| a != b).unwrap_or(0);
-    let shown = |s: &[u8]| s[at..(at + 16).min(s.len())].to_vec();
-    format!("{name} differs from byte {at} on: the model has {:?}, the host {:?}", shown(model), shown(ours))
+    let shown = |s: &[T]| s[at..(at + 16).min(s.len())].to_vec();
+    format!("{name} differs from place {at} on: the model has {:?}, the host {:?}", shown(model), shown(ours))
 }

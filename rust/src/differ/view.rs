@@ -21,6 +21,7 @@ pub fn state(s: &model::State) -> raw::State {
         staging_len: s.lengths.staging,
         card_len: s.lengths.card,
         manifest_len: s.lengths.manifest,
+        index_len: s.lengths.index,
         used: s.used,
         next: s.next,
         faulted: s.faulted as u64,
@@ -64,7 +65,7 @@ fn slot(r: &raw::Room) -> Slot {
 
 pub fn said(s: &raw::State) -> model::State {
     model::State {
-        lengths: Lengths { staging: s.staging_len, card: s.card_len, manifest: s.manifest_len },
+        lengths: Lengths { staging: s.staging_len, card: s.card_len, manifest: s.manifest_len, index: s.index_len },
         used: s.used,
         next: s.next,
         faulted: yes(s.faulted),

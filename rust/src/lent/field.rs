@@ -181,12 +181,12 @@ mod tests {
     ];
 
     fn buffers() -> Buffers {
-        Buffers { staging: vec![0; 65_536], card: vec![0; 65_536], manifest: b"modules\t1\n".to_vec() }
+        Buffers::new(vec![0; 65_536], vec![0; 65_536], b"modules\t1\n".to_vec())
     }
 
     fn begun(archive: &Here) -> State {
         let mut b = buffers();
-        archive.begin(archive.mount(&b, 0).state, &mut b, &[0; 128]).state
+        archive.begin(archive.mount(&mut b, 0).state, &mut b, &[0; 128]).state
     }
 
     fn ask(archive: &Here, call: ModuleCall, state: State, b: &mut Buffers, at: u64, words: &[u64]) -> raw::Answer {
@@ -221,6 +221,22 @@ mod tests {
         }
     }
 
+    /// Of the module calls next alone is lent the index: to the others its length is nothing, and their own fields are named.
+    #[test]
+    fn another_length_of_the_index_is_named_by_next_alone() {
+        let archive = Here::default();
+        for (call, field, at, words) in BAD {
+            let state = begun(&archive);
+            for entries in [0, 480, 482] {
+                let mut b = buffers();
+                b.index.resize(entries, 0);
+                let a = ask(&archive, call, state, &mut b, at, words);
+                let named = if call == Next { Some(254) } else { field.number(call) };
+                assert_eq!((a.code, Some(a.field), a.state), (-5, named, state), "{call} {words:?}, {entries} entries");
+            }
+        }
+    }
+
     /// They are no module calls: what would be 254 or a topic there is 0.
     #[test]
     fn begin_and_ingress_name_no_field() {
@@ -236,7 +252,7 @@ mod tests {
         }
         let a = archive.ingress(state, &mut buffers(), b"", b"");
         assert_eq!((a.code, a.field), (-5, 0));
-        let fresh = archive.mount(&buffers(), 0).state;
+        let fresh = archive.mount(&mut buffers(), 0).state;
         let a = archive.begin(fresh, &mut buffers(), &[0; 127]);
         assert_eq!((a.code, a.field), (-5, 0));
     }

@@ -10,9 +10,21 @@ impl Caller for Linked {
         unsafe { raw::loafheron_state_size() }
     }
 
-    fn mount(&self, b: &Buffers, used: u64) -> raw::Mounted {
-        let (s, c, m) = (&b.staging, &b.card, &b.manifest);
-        unsafe { raw::loafheron_mount(s.as_ptr(), s.len(), c.as_ptr(), c.len(), m.as_ptr(), m.len(), used) }
+    fn mount(&self, b: &mut Buffers, used: u64) -> raw::Mounted {
+        let (s, c, m, i) = (&b.staging, &b.card, &b.manifest, &mut b.index);
+        unsafe {
+            raw::loafheron_mount(
+                s.as_ptr(),
+                s.len(),
+                c.as_ptr(),
+                c.len(),
+                m.as_ptr(),
+                m.len(),
+                i.as_mut_ptr(),
+                i.len(),
+                used,
+            )
+        }
     }
 
     fn begin(&self, state: State, b: &mut Buffers, args: &[u8]) -> raw::Answer {
@@ -106,7 +118,7 @@ impl Caller for Linked {
     }
 
     fn next(&self, state: State, memory: &mut [u8], b: &Buffers, at: u64) -> raw::Answer {
-        let (s, c, m) = (&b.staging, &b.card, &b.manifest);
+        let (s, c, m, i) = (&b.staging, &b.card, &b.manifest, &b.index);
         unsafe {
             raw::loafheron_next(
                 state,
@@ -118,6 +130,8 @@ impl Caller for Linked {
                 c.len(),
                 m.as_ptr(),
                 m.len(),
+                i.as_ptr(),
+                i.len(),
                 at,
             )
         }
@@ -142,14 +156,38 @@ impl Caller for Linked {
     }
 
     fn module_return(&self, state: State, b: &mut Buffers, code: i64) -> raw::Returned {
-        let (s, c, m) = (&mut b.staging, &mut b.card, &b.manifest);
+        let (s, c, m, i) = (&mut b.staging, &mut b.card, &b.manifest, &mut b.index);
         unsafe {
-            raw::loafheron_return(state, s.as_mut_ptr(), s.len(), c.as_mut_ptr(), c.len(), m.as_ptr(), m.len(), code)
+            raw::loafheron_return(
+                state,
+                s.as_mut_ptr(),
+                s.len(),
+                c.as_mut_ptr(),
+                c.len(),
+                m.as_ptr(),
+                m.len(),
+                i.as_mut_ptr(),
+                i.len(),
+                code,
+            )
         }
     }
 
     fn look_up(&self, state: State, b: &Buffers, id: u64) -> raw::Place {
-        let (s, c, m) = (&b.staging, &b.card, &b.manifest);
-        unsafe { raw::loafheron_look_up(state, s.as_ptr(), s.len(), c.as_ptr(), c.len(), m.as_ptr(), m.len(), id) }
+        let (s, c, m, i) = (&b.staging, &b.card, &b.manifest, &b.index);
+        unsafe {
+            raw::loafheron_look_up(
+                state,
+                s.as_ptr(),
+                s.len(),
+                c.as_ptr(),
+                c.len(),
+                m.as_ptr(),
+                m.len(),
+                i.as_ptr(),
+                i.len(),
+                id,
+            )
+        }
     }
 }

@@ -2,6 +2,7 @@
 //! them holds the state himself: he can use one twice, or lend other buffers, and then the promises say nothing. So only the owner
 //! ([`crate::host`]) and the differential run see them.
 mod field;
+mod index;
 #[cfg(linked)]
 mod linked;
 mod piped;
@@ -18,12 +19,15 @@ pub type Here = Linked;
 #[cfg(not(linked))]
 pub type Here = Piped;
 
-/// What the box lends to every operation.
+/// What the box lends: the first three to every operation, the index to mount, next, return and look-up. [`Buffers::new`] makes an index that
+/// is always long enough.
 #[derive(Clone, Debug, PartialEq, Eq, Default)]
 pub struct Buffers {
     pub staging: Vec<u8>,
     pub card: Vec<u8>,
     pub manifest: Vec<u8>,
+    /// entry i is the card's offset of the record with the number 1 + i; mount fills it, whatever it held before
+    pub index: Vec<u32>,
 }
 
 /// What a return leads to.
@@ -95,7 +99,7 @@ pub fn place(p: raw::Place) -> Place {
 /// Whoever makes the calls of the archive: each function of include/loafheron.h, with a slice for a pointer and a length.
 pub trait Caller {
     fn state_size(&self) -> u64;
-    fn mount(&self, b: &Buffers, used: u64) -> raw::Mounted;
+    fn mount(&self, b: &mut Buffers, used: u64) -> raw::Mounted;
     fn begin(&self, state: State, b: &mut Buffers, args: &[u8]) -> raw::Answer;
     fn ingress(&self, state: State, b: &mut Buffers, topic: &[u8], payload: &[u8]) -> raw::Answer;
     fn write(&self, state: State, memory: &[u8], b: &mut Buffers, at: u64) -> raw::Answer;
@@ -115,7 +119,7 @@ mod tests {
     const MANIFEST: &[u8] = b"modules\t1\ngrant\t1\tout\tloop/take\ngrant\t1\tin\tloop/take\n";
 
     fn buffers() -> Buffers {
-        Buffers { staging: vec![0; 65_536], card: vec![0; 65_536], manifest: MANIFEST.to_vec() }
+        Buffers::new(vec![0; 65_536], vec![0; 65_536], MANIFEST.to_vec())
     }
 
     /// What a panic said.
@@ -246,17 +250,17 @@ mod tests {
     fn wrong_buffers_get_their_codes() {
         let archive = Here::default();
         let mut b = buffers();
-        let state = archive.mount(&b, 0).state;
+        let state = archive.mount(&mut b, 0).state;
         b.card.push(0);
         assert_eq!(archive.begin(state, &mut b, &weave_args()).code, -5);
         b.card.pop();
         b.manifest[0] = b'M';
         assert_eq!(archive.begin(state, &mut b, &weave_args()).code, -5);
-        assert_eq!(archive.mount(&b, 0).code, -5);
+        assert_eq!(archive.mount(&mut b, 0).code, -5);
         b.manifest[0] = b'm';
-        let refused = archive.mount(&b, 65_536);
+        let refused = archive.mount(&mut b, 65_536);
         assert_eq!((refused.code, refused.at, refused.state), (-3, 0, State::NONE));
-        assert_eq!(archive.mount(&b, 65_537).code, -5);
+        assert_eq!(archive.mount(&mut b, 65_537).code, -5);
         assert_eq!(archive.begin(state, &mut b, &weave_args()).code, 0);
     }
 
@@ -265,7 +269,7 @@ mod tests {
     fn numbers_that_no_state_has() {
         let archive = Here::default();
         let mut b = buffers();
-        let begun = archive.begin(archive.mount(&b, 0).state, &mut b, &weave_args()).state;
+        let begun = archive.begin(archive.mount(&mut b, 0).state, &mut b, &weave_args()).state;
         for spoiled in [1, 2, -1, -2, -4, -7, -8, 250, i64::MIN, i64::MAX] {
             let a = archive.read(State { running: 77, spoiled, ..begun }, &mut [], &b, 8);
             assert_eq!((a.code, a.state.running, a.state.spoiled), (-1, 1, -1), "a mark of {spoiled}");
@@ -295,7 +299,7 @@ mod tests {
         // units for a read of both takes, 1 + 304 / 8
         let mut args = weave_args();
         args[24] = 39;
-        let begun = archive.begin(archive.mount(&b, 0).state, &mut b, &args).state;
+        let begun = archive.begin(archive.mount(&mut b, 0).state, &mut b, &args).state;
         let first = archive.ingress(begun, &mut b, b"loop/take", b"verse").state;
         let staged = archive.ingress(first, &mut b, b"loop/take", b"chorus").state;
         b.staging[128 + 8] = 127;
@@ -311,7 +315,7 @@ mod tests {
         assert_eq!(fate(r.outcome), Fate::Committed { events: 2, bytes: 304 });
         assert_eq!(&b.card[128..137], b"loop/tak\x7f");
         assert_eq!(&b.card[152 + 128..152 + 137], b"loop/take");
-        assert_eq!(archive.mount(&b, 304).code, 0);
+        assert_eq!(archive.mount(&mut b, 304).code, 0);
     }
 
     /// A raw write of "verse" to loop/take, a record of 152 bytes.
@@ -331,7 +335,7 @@ mod tests {
         b.manifest.splice(10..10, *b"charge\t1\n");
         let mut args = weave_args();
         args[24] = units;
-        let state = archive.begin(archive.mount(&b, 0).state, &mut b, &args).state;
+        let state = archive.begin(archive.mount(&mut b, 0).state, &mut b, &args).state;
         (b, state, 17)
     }
 

@@ -1,6 +1,6 @@
 //! The archive in a program of its own (rust/server.c), told its calls through a pipe: for machines that cannot link it.
 //!
-//! The program has four buffers. Before a call it is told what has changed in them here, and after it says what the call has changed,
+//! The program has the five buffers. Before a call it is told what has changed in them here, and after it says what the call has changed,
 //! whatever the buffer was lent as.
 use super::{Buffers, Caller};
 use crate::raw::{self, State};
@@ -20,7 +20,7 @@ const CALL: u64 = 3;
 #[cfg(test)]
 const STEP_OVER: u64 = 4;
 
-const NAMES: [&str; 4] = ["memory", "staging", "card", "manifest"];
+const NAMES: [&str; 5] = ["memory", "staging", "card", "manifest", "index"];
 
 /// what has changed is found and told in pieces of so many bytes
 const BLOCK: usize = 4_096;
@@ -48,6 +48,9 @@ enum Lent<'a> {
     Changed(&'a mut [u8]),
 }
 
+/// All of them, in the order of their names.
+type All<'a> = [Lent<'a>; NAMES.len()];
+
 /// Numbers and bytes without padding: any bytes are a good value.
 unsafe trait Plain: Copy {}
 unsafe impl Plain for u64 {}
@@ -61,12 +64,21 @@ fn bytes<A: Plain>(a: &A) -> &[u8] {
     unsafe { std::slice::from_raw_parts((a as *const A).cast(), size_of::<A>()) }
 }
 
+/// An index as bytes. Both sides have the lowest byte first, as with a state.
+fn entries(index: &[u32]) -> &[u8] {
+    unsafe { std::slice::from_raw_parts(index.as_ptr().cast(), size_of_val(index)) }
+}
+
+fn entries_mut(index: &mut [u32]) -> &mut [u8] {
+    unsafe { std::slice::from_raw_parts_mut(index.as_mut_ptr().cast(), size_of_val(index)) }
+}
+
 struct Pipe {
     child: Child,
     to: BufWriter<ChildStdin>,
     from: BufReader<ChildStdout>,
     /// what the program's buffers hold
-    there: [Vec<u8>; 4],
+    there: [Vec<u8>; NAMES.len()],
 }
 
 pub struct Piped(RefCell<Pipe>);
@@ -118,7 +130,7 @@ impl Pipe {
     }
 
     /// What the call has changed, until the program says that this was all.
-    fn changes(&mut self, lent: &mut [Lent; 4]) -> Result<()> {
+    fn changes(&mut self, lent: &mut All) -> Result<()> {
         loop {
             let which = self.get::<u64>()? as usize;
             if which == lent.len() {
@@ -129,19 +141,13 @@ impl Pipe {
             self.from.read_exact(&mut self.there[which][piece.clone()])?;
             match &mut lent[which] {
                 Lent::Changed(ours) => ours[piece.clone()].copy_from_slice(&self.there[which][piece]),
-                _ => panic!("the archive changed {} at {at}, which it may only read", NAMES[which]),
+                Lent::Shown(_) => panic!("the archive changed {} at {at}, which it may only read", NAMES[which]),
+                Lent::No => panic!("the archive changed {} at {at}, which it was not lent", NAMES[which]),
             }
         }
     }
 
-    fn call<A: Plain>(
-        &mut self,
-        f: Function,
-        state: &State,
-        mut lent: [Lent; 4],
-        n: u64,
-        more: [&[u8]; 2],
-    ) -> Result<A> {
+    fn call<A: Plain>(&mut self, f: Function, state: &State, mut lent: All, n: u64, more: [&[u8]; 2]) -> Result<A> {
         for (which, buffer) in lent.iter().enumerate() {
             match buffer {
                 Lent::No => {}
@@ -165,7 +171,7 @@ impl Pipe {
 }
 
 impl Piped {
-    fn call<A: Plain>(&self, f: Function, state: &State, lent: [Lent; 4], n: u64, more: [&[u8]; 2]) -> A {
+    fn call<A: Plain>(&self, f: Function, state: &State, lent: All, n: u64, more: [&[u8]; 2]) -> A {
         let pipe = &mut *self.0.borrow_mut();
         pipe.call(f, state, lent, n, more).unwrap_or_else(|e| pipe.ended(e))
     }
@@ -179,17 +185,23 @@ impl Piped {
 }
 
 /// Staging, card and manifest, for a function that changes none of them.
-fn shown(b: &Buffers) -> [Lent<'_>; 4] {
-    [Lent::No, Lent::Shown(&b.staging), Lent::Shown(&b.card), Lent::Shown(&b.manifest)]
+fn shown(b: &Buffers) -> All<'_> {
+    [Lent::No, Lent::Shown(&b.staging), Lent::Shown(&b.card), Lent::Shown(&b.manifest), Lent::No]
 }
 
 /// The same for a function that changes the staging.
-fn staging_open(b: &mut Buffers) -> [Lent<'_>; 4] {
-    [Lent::No, Lent::Changed(&mut b.staging), Lent::Shown(&b.card), Lent::Shown(&b.manifest)]
+fn staging_open(b: &mut Buffers) -> All<'_> {
+    [Lent::No, Lent::Changed(&mut b.staging), Lent::Shown(&b.card), Lent::Shown(&b.manifest), Lent::No]
 }
 
-fn with<'a>(memory: Lent<'a>, [_, s, c, m]: [Lent<'a>; 4]) -> [Lent<'a>; 4] {
-    [memory, s, c, m]
+/// These and the index, for a function that changes none of them.
+fn index_shown(b: &Buffers) -> All<'_> {
+    let [_, s, c, m, _] = shown(b);
+    [Lent::No, s, c, m, Lent::Shown(entries(&b.index))]
+}
+
+fn with<'a>(memory: Lent<'a>, [_, s, c, m, i]: All<'a>) -> All<'a> {
+    [memory, s, c, m, i]
 }
 
 const NONE: [&[u8]; 2] = [&[], &[]];
@@ -199,8 +211,10 @@ impl Caller for Piped {
         self.ask(&[SIZE])
     }
 
-    fn mount(&self, b: &Buffers, used: u64) -> raw::Mounted {
-        self.call(Function::Mount, &State::NONE, shown(b), used, NONE)
+    fn mount(&self, b: &mut Buffers, used: u64) -> raw::Mounted {
+        let index = Lent::Changed(entries_mut(&mut b.index));
+        let lent = [Lent::No, Lent::Shown(&b.staging), Lent::Shown(&b.card), Lent::Shown(&b.manifest), index];
+        self.call(Function::Mount, &State::NONE, lent, used, NONE)
     }
 
     fn begin(&self, state: State, b: &mut Buffers, args: &[u8]) -> raw::Answer {
@@ -224,7 +238,7 @@ impl Caller for Piped {
     }
 
     fn next(&self, state: State, memory: &mut [u8], b: &Buffers, at: u64) -> raw::Answer {
-        self.call(Function::Next, &state, with(Lent::Changed(memory), shown(b)), at, NONE)
+        self.call(Function::Next, &state, with(Lent::Changed(memory), index_shown(b)), at, NONE)
     }
 
     fn close(&self, state: State, memory: &[u8], b: &Buffers, at: u64) -> raw::Answer {
@@ -232,12 +246,14 @@ impl Caller for Piped {
     }
 
     fn module_return(&self, state: State, b: &mut Buffers, code: i64) -> raw::Returned {
-        let lent = [Lent::No, Lent::Changed(&mut b.staging), Lent::Changed(&mut b.card), Lent::Shown(&b.manifest)];
+        let index = Lent::Changed(entries_mut(&mut b.index));
+        let (staging, card) = (Lent::Changed(&mut b.staging), Lent::Changed(&mut b.card));
+        let lent = [Lent::No, staging, card, Lent::Shown(&b.manifest), index];
         self.call(Function::Return, &state, lent, code as u64, NONE)
     }
 
     fn look_up(&self, state: State, b: &Buffers, id: u64) -> raw::Place {
-        self.call(Function::LookUp, &state, shown(b), id, NONE)
+        self.call(Function::LookUp, &state, index_shown(b), id, NONE)
     }
 }
 

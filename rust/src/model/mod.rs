@@ -1,7 +1,8 @@
 //! A twin of the host, written from the requirements (document 01, changed by 02) and docs/DECISIONS.md, not from the proved definitions.
 //!
 //! It is plain and slow on purpose: a card is parsed into a `Vec<Event>`, a record is sound when it is what its own
-//! event would be written as, a list is a chain of iterator steps. Nothing here walks bytes as the host does.
+//! event would be written as, a list is a chain of iterator steps, and what the table has for a window is read before a page is made
+//! of it. Nothing here walks bytes as the host does.
 //! Numbers in comments, as (57), are entries of docs/DECISIONS.md.
 pub mod bytes;
 pub mod calls;
@@ -9,6 +10,7 @@ pub mod chain;
 pub mod charge;
 pub mod checks;
 pub mod event;
+pub mod index;
 pub mod ledger;
 pub mod manifest;
 pub mod state;

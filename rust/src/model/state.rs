@@ -30,6 +30,8 @@ pub struct Lengths {
     pub staging: u64,
     pub card: u64,
     pub manifest: u64,
+    /// in entries
+    pub index: u64,
 }
 
 #[derive(Clone, Copy, Debug, PartialEq, Eq)]
@@ -59,13 +61,14 @@ pub struct State {
     pub weave: Weave,
 }
 
-/// "memory, staging, card and manifest are lent byte buffers"
+/// "memory, staging, card and manifest are lent byte buffers"; 02, A9: "lent beside the card, a table with the offset of each record"
 #[derive(Clone, Debug, PartialEq, Eq, Default)]
 pub struct Lent {
     pub memory: Vec<u8>,
     pub staging: Vec<u8>,
     pub card: Vec<u8>,
     pub manifest: Vec<u8>,
+    pub index: Vec<u32>,
 }
 
 impl Lent {
@@ -74,6 +77,7 @@ impl Lent {
             staging: self.staging.len() as u64,
             card: self.card.len() as u64,
             manifest: self.manifest.len() as u64,
+            index: self.index.len() as u64,
         }
     }
 }
@@ -104,7 +108,7 @@ impl Weave {
 impl State {
     /// "refuses, its state all 0"
     pub const NONE: State = State {
-        lengths: Lengths { staging: 0, card: 0, manifest: 0 },
+        lengths: Lengths { staging: 0, card: 0, manifest: 0, index: 0 },
         used: 0,
         next: 0,
         faulted: false,

@@ -24,8 +24,9 @@ struct Boxes {
     other: Twin,
     /// of the module whose turn is looked at
     grants: Grants,
-    /// the used length of both cards at mount
+    /// the used length of both cards at mount, and how many records they had
     used: usize,
+    records: usize,
 }
 
 impl Boxes {
@@ -44,23 +45,27 @@ impl Boxes {
         other.poke(Buffer::Card, 0, &card.iter().flat_map(Event::stored).collect::<Vec<u8>>());
         other.lend(Buffer::Staging, one.lent.staging.clone());
         other.lend(Buffer::Manifest, one.lent.manifest.clone());
+        // each mount fills its own
+        other.lend_index(one.lent.index.clone());
         let used = one.state.used;
-        let mut boxes = Boxes { one, other, grants, used: used as usize };
+        let records = one.state.next as usize - 1;
+        let mut boxes = Boxes { one, other, grants, used: used as usize, records };
         boxes.call(Call::Mount { used })?;
         Ok(boxes)
     }
 
-    /// The same call to both, with the same memory. After it nothing may differ but what was on the cards at mount.
+    /// The same call to both, with the same memory. After it nothing may differ but what was on the cards at mount, and its entries.
     fn call(&mut self, call: Call) -> Agreed<Said> {
-        let Boxes { one, other, used, .. } = self;
+        let Boxes { one, other, used, records, .. } = self;
         other.lend(Buffer::Memory, one.lent.memory.clone());
         let cursor = del::cursor(&call, &one.state, &one.lent);
         let (said, others) = (one.call(call.clone())?, other.call(call.clone())?);
         let (a, b) = (&one.lent, &other.lent);
-        let lent = [a.memory == b.memory, a.staging == b.staging, a.card[*used..] == b.card[*used..]];
+        let (takes, entries) = (a.card[*used..] == b.card[*used..], a.index[*records..] == b.index[*records..]);
+        let lent = [a.memory == b.memory, a.staging == b.staging, takes, entries];
         let states = one.state == other.state;
-        if said != others || !states || lent != [true; 3] {
-            let alike = format!("alike are the states {states}; memory, staging and new takes {lent:?}");
+        if said != others || !states || lent != [true; 4] {
+            let alike = format!("alike are the states {states}; memory, staging, new takes and their entries {lent:?}");
             return Err(Difference(format!("{APART}: {said:?} and {others:?} to {call:?}; {alike}")));
         }
         self.count("turn", &[(true, "calls")]);
@@ -138,6 +143,7 @@ impl Boxes {
     /// The turn that has to be the same in both boxes, and its return.
     fn turn(&mut self, d: &mut Dice, h: &Habits) -> Agreed<()> {
         self.count("cards", &cards::told(&events(&self.one), &events(&self.other), &self.grants));
+        self.count("tables", &[(self.one.lent.index != self.other.lent.index, "differ")]);
         if d.one_in(2) {
             self.list_all(d)?;
         }

@@ -23,10 +23,11 @@ enum Numbers {
 }
 
 /// All but the mark, which has its own numbers. (The room is the first; `try_it` exchanges it with another.)
-const FIELDS: [Field; 21] = [
+const FIELDS: [Field; 22] = [
     (|s| &mut s.staging_len, Numbers::Near),
     (|s| &mut s.card_len, Numbers::Near),
     (|s| &mut s.manifest_len, Numbers::Near),
+    (|s| &mut s.index_len, Numbers::Near),
     (|s| &mut s.used, Numbers::Near),
     (|s| &mut s.next, Numbers::Near),
     (|s| &mut s.faulted, Numbers::Flag),

@@ -2,7 +2,7 @@
 use super::*;
 
 /// The byte at an offset, changed; what it was.
-fn change(d: &mut Dice, twin: &mut Twin, which: Buffer, at: usize) -> u8 {
+pub fn change(d: &mut Dice, twin: &mut Twin, which: Buffer, at: usize) -> u8 {
     let buffer = match which {
         Buffer::Card => &twin.lent.card,
         _ => &twin.lent.staging,
@@ -92,12 +92,13 @@ pub fn staging(d: &mut Dice, twin: &mut Twin) -> Agreed<()> {
 }
 
 /// A return, and everything as it was before it.
-fn ended_and_back(twin: &mut Twin) -> Agreed<()> {
-    let (state, staging, card) = (twin.state, twin.lent.staging.clone(), twin.lent.card.clone());
+pub fn ended_and_back(twin: &mut Twin) -> Agreed<()> {
+    let (state, lent) = (twin.state, twin.lent.clone());
     twin.call(Call::Return { code: 0 })?;
     twin.state = state;
-    twin.lend(Buffer::Staging, staging);
-    twin.lend(Buffer::Card, card);
+    twin.lend(Buffer::Staging, lent.staging);
+    twin.lend(Buffer::Card, lent.card);
+    twin.lend_index(lent.index);
     Ok(())
 }
 

@@ -42,7 +42,7 @@ impl Draft {
         let m = twin.lent.memory.len() as u64;
         match field {
             // it is not in the record
-            Field::Before => before(d, twin),
+            Field::Before => before(d, twin, self.call),
             Field::Record => self.at = if d.one_in(2) { self.at + 1 + d.below(7) } else { outside(d, m) },
             Field::Topic => self.spoil_topic(d, twin, m),
             Field::Flags => *self.word(field) |= *d.pick(&[3, 4, 32, 1 << 31]),
@@ -96,10 +96,11 @@ fn outside(d: &mut Dice, memory: u64) -> u64 {
     *d.pick(&[0, last, last + 8, 1 << 63, u64::MAX - 7])
 }
 
-/// A fault that check 1 finds.
-fn before(d: &mut Dice, twin: &mut Twin) {
+/// A fault that check 1 finds. The table is lent to next alone of these calls.
+fn before(d: &mut Dice, twin: &mut Twin, call: ModuleCall) {
     let s = &mut twin.state;
     match d.below(12) {
+        0..=3 if call == ModuleCall::Next => s.lengths.index += 1,
         0..=1 => s.lengths.staging += 1,
         2..=3 => s.lengths.card -= 1,
         4..=5 => s.lengths.manifest += 1,

@@ -2,13 +2,16 @@
 use super::*;
 use crate::model::{Slot, Spoiled};
 
-/// One field of the state becomes a number at an edge.
+/// One field of the state becomes a number at an edge, or an entry of the table is wrong.
 fn twist(d: &mut Dice, twin: &mut Twin, modules: u64) {
+    if d.one_in(12) {
+        return misfits::some_entry(d, twin);
+    }
     let lent = twin.lent.lengths();
     let s = &mut twin.state;
     let w = &mut s.weave;
     let slot = d.index(4);
-    match d.below(24) {
+    match d.below(26) {
         0 => s.lengths.staging = d.edge(lent.staging),
         1 => s.lengths.card = d.edge(lent.card),
         2 => s.lengths.manifest = d.edge(lent.manifest),
@@ -32,6 +35,9 @@ fn twist(d: &mut Dice, twin: &mut Twin, modules: u64) {
         20 => w.slots[slot] = w.slots[d.index(4)],
         21 => w.slots[slot] = any_slot(d, s.next),
         22 => w.slots[slot].cursor.size = d.edge(64),
+        23 => s.lengths.index = d.edge(lent.index),
+        // more than the table has entries for
+        24 => s.next = lent.index + d.below(4),
         _ => w.slots[slot] = Slot::FREE,
     }
 }
@@ -76,7 +82,7 @@ pub fn states(d: &mut Dice, twin: &mut Twin) -> Agreed<()> {
     Ok(())
 }
 
-/// A box near the last event number, 2^63 - 1, whose card is younger than that.
+/// A box near the last event number, 2^63 - 1, whose card is younger than that. (No table is as long, so that its weaves are discarded.)
 pub fn last_numbers(d: &mut Dice, twin: &mut Twin) -> Agreed<()> {
     let h = Habits { budget: 1_000_000, ..Habits::new() };
     for _ in 0..12 {

@@ -6,9 +6,11 @@ mod fields;
 mod full;
 mod hostile;
 mod long;
+mod misfits;
 mod pages;
 mod plain;
 mod sizes;
+mod tables;
 
 use super::asks::{self, Harm};
 use super::dice::Dice;
@@ -17,7 +19,7 @@ use super::twin::{Agreed, Buffer, Call, Said, Twin};
 
 type Life = fn(&mut Dice, &mut Twin) -> Agreed<()>;
 
-pub const KINDS: [(&str, Life); 16] = [
+pub const KINDS: [(&str, Life); 18] = [
     ("an ordinary life", plain::good),
     ("each argument bad alone", plain::one_bad),
     ("two arguments bad at once", plain::two_bad),
@@ -34,6 +36,8 @@ pub const KINDS: [(&str, Life); 16] = [
     ("pages at every capacity", pages::capacities),
     ("hundreds of weaves", long::weaves),
     ("sizes at the edge", sizes::sizes),
+    ("tables too short", tables::short),
+    ("tables that do not fit", misfits::misfits),
 ];
 
 /// What this box does, more or less.
@@ -54,7 +58,10 @@ impl Habits {
     }
 }
 
-/// Buffers lent, and a card of so many records mounted.
+/// No record is shorter.
+const SHORTEST: usize = 136;
+
+/// Buffers lent, the table with entries for as many records as the card can hold, or some more; and a card of so many records mounted.
 pub fn set_up(d: &mut Dice, twin: &mut Twin, h: &Habits, modules: u64, records: u64, spare: usize) -> Agreed<Said> {
     let used = stock::card(d, records, &h.topics);
     let n = used.len();
@@ -66,6 +73,8 @@ pub fn set_up(d: &mut Dice, twin: &mut Twin, h: &Habits, modules: u64, records: 
     twin.lend(Buffer::Memory, bytes);
     let bytes = d.bytes(staging);
     twin.lend(Buffer::Staging, bytes);
+    let entries = card.len() / SHORTEST + d.index(3);
+    twin.lend_index(stock::table(d, entries as u64));
     twin.lend(Buffer::Card, card);
     twin.lend(Buffer::Manifest, manifest);
     twin.call(Call::Mount { used: n as u64 })

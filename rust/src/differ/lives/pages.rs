@@ -33,7 +33,7 @@ pub fn capacities(d: &mut Dice, twin: &mut Twin) -> Agreed<()> {
 }
 
 /// A next whose page lies over its own argument record.
-fn page(twin: &mut Twin, handle: u64, cap: u64) -> Agreed<Said> {
+pub fn page(twin: &mut Twin, handle: u64, cap: u64) -> Agreed<Said> {
     let words: Vec<u8> = [handle, 16, cap].iter().flat_map(|w| w.to_le_bytes()).collect();
     twin.poke(Buffer::Memory, 8, &words);
     twin.call(Call::Next { at: 8 })

@@ -10,6 +10,7 @@ pub fn sizes(d: &mut Dice, twin: &mut Twin) -> Agreed<()> {
     twin.call(Call::Begin { args: damage::weave_args(u64::MAX) })?;
     for _ in 0..30 {
         other_length(d, twin, &h)?;
+        other_table(d, twin, &h)?;
     }
     for size in [0, 7, 8, 47, 48, 56, 1_048_576, 1_048_577] {
         let memory = d.bytes(size.min(64)).into_iter().cycle().take(size).collect();
@@ -35,6 +36,19 @@ fn at_mount(d: &mut Dice, twin: &mut Twin, used: u64) -> Agreed<()> {
         twin.call(Call::Mount { used })?;
     }
     twin.lend(Buffer::Card, was);
+    Ok(())
+}
+
+/// Calls while the table is longer or shorter than at mount. Most are not lent it.
+fn other_table(d: &mut Dice, twin: &mut Twin, h: &Habits) -> Agreed<()> {
+    let n = twin.lent.index.len() as u64;
+    let entries = *d.pick(&[n + 1, n - 1, 0]);
+    let was = twin.lend_index(stock::table(d, entries));
+    for _ in 0..3 {
+        let call = any_call(d, twin, h);
+        twin.call(call)?;
+    }
+    twin.lend_index(was);
     Ok(())
 }
 
