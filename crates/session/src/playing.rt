@@ -104,7 +104,16 @@ impl Session {
         if Line::LONGEST < line.len() {
             return self.bad(out);
         }
-        self.played(line, Line::read(line), memory, staging, card, text, index, out)
+        self.played(
+            line,
+            Line::read(line),
+            memory,
+            staging,
+            card,
+            text,
+            index,
+            out,
+        )
     }
 
     // A line, without its byte 10: what it says is put at the front of `out`.
