@@ -56,24 +56,24 @@ open-does l h m m′ o o′ a n em e p =
     is : a ≡ openAnswer l h m 8
     is = e ∙ ap (λ (x : List ℕ). openAnswer l h x 8) em
 
-pub next-does : (l : Lent) (h : Host) (m m₁ m₂ page o o₁ o₂ : List ℕ) (a : Answer) (e n : ℕ) → m₁ ≡ m → a ≡ nextAnswer l h m₁ 8 → m₂ ≡ nextMemory l h m₁ 8
+pub next-does : (l : Lent) (table : List ℕ) (h : Host) (m m₁ m₂ page o o₁ o₂ : List ℕ) (a : Answer) (e n : ℕ) → m₁ ≡ m → a ≡ nextAnswer l table h m₁ 8 → m₂ ≡ nextMemory l table h m₁ 8
     → Put o o₁ 0 (saidAnswer nextWord (a .code) (a .value)) e → page ≡ part 8 (a .value) m₂ → Put o₁ o₂ e (eventLines page) n
-    → Does (nextAfter l h m) (a .host) m₂ (l .staging) (l .card) o o₂ n
+    → Does (nextAfter l table h m) (a .host) m₂ (l .staging) (l .card) o o₂ n
 unfolding nextAfter
-next-does l h m m₁ m₂ page o o₁ o₂ a e n em ea e₂ p ep q =
+next-does l table h m m₁ m₂ page o o₁ o₂ a e n em ea e₂ p ep q =
     record { host = ap (λ (x : Answer). x .host) is; memory = kept; staging = refl; card = refl; said = rw (is, kept) at both }
   where
-    is : a ≡ nextAnswer l h m 8
-    is = ea ∙ ap (λ (x : List ℕ). nextAnswer l h x 8) em
+    is : a ≡ nextAnswer l table h m 8
+    is = ea ∙ ap (λ (x : List ℕ). nextAnswer l table h x 8) em
 
-    kept : m₂ ≡ nextMemory l h m 8
-    kept = e₂ ∙ ap (λ (x : List ℕ). nextMemory l h x 8) em
+    kept : m₂ ≡ nextMemory l table h m 8
+    kept = e₂ ∙ ap (λ (x : List ℕ). nextMemory l table h x 8) em
 
     both : Put o o₂ 0 (saidAnswer nextWord (a .code) (a .value) ++ eventLines (part 8 (a .value) m₂)) n
     both = put-then o o₁ o₂ 0 e n _ _ p (rw ep at q)
 
-pub return-does : (l : Lent) (h : Host) (m s k o o′ : List ℕ) (a : Returned) (code : ℤ) (n : ℕ) → a ≡ returnAnswer l h code → k ≡ returnCard l h code
-    → s ≡ returnStaging l h code → Put o o′ 0 (saidFate (a .fate)) n → Does (returnAfter l h m code) (a .host) m s k o o′ n
+pub return-does : (l : Lent) (table : List ℕ) (h : Host) (m s k o o′ : List ℕ) (a : Returned) (code : ℤ) (n : ℕ) → a ≡ returnAnswer l table h code → k ≡ returnCard l table h code
+    → s ≡ returnStaging l table h code → Put o o′ 0 (saidFate (a .fate)) n → Does (returnAfter l table h m code) (a .host) m s k o o′ n
 unfolding returnAfter
-return-does l h m s k o o′ a code n e ek es p =
+return-does l table h m s k o o′ a code n e ek es p =
     record { host = ap (λ (x : Returned). x .host) e; memory = refl; staging = es; card = ek; said = rw e at p }

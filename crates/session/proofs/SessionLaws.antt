@@ -14,18 +14,18 @@ use Rattle.host.specs.declared.Host.{Host}
 use Rattle.host.specs.declared.Mounted.{Mounted}
 use Rattle.script.specs.Saying.{Put, saidBad, saidMount}
 use Rattle.session.specs.Calls.{After, Does}
-use Rattle.session.specs.Sessions.{Buffers, buffersOf, Answers, counted, became, badAnswer, called, mountAnswer, manifestLine}
+use Rattle.session.specs.Sessions.{Buffers, buffersOf, Answers, counted, became, badAnswer, called, mountAnswer, withIndex, manifestLine}
 use Rattle.session.specs.declared.Phase.the-variants.{Listing, Overfull, Playing, Over}
 use Rattle.session.specs.declared.Session.{Session}
 use Rattle.script.proofs.SayLaws.{put-none}
 
-pub called-answers : (s next′ : Session) (b : Buffers) (a : After) (h : Host) (m st k o o′ : List ℕ) (n w : ℕ) → Does a h m st k o o′ n → w ≡ n
-    → next′ ≡ became s Playing (s .size) h → Answers (called s b a) next′ (buffersOf m st k (b .text)) o o′ w
+pub called-answers : (s next′ : Session) (b : Buffers) (a : After) (h : Host) (m st k x x′ o o′ : List ℕ) (n w : ℕ) → Does a h m st k o o′ n → x′ ≡ x → w ≡ n
+    → next′ ≡ became s Playing (s .size) h → Answers (called s b a x) next′ (buffersOf m st k (b .text) x′) o o′ w
 unfolding called
-called-answers s next′ b a h m st k o o′ n w d ew en =
+called-answers s next′ b a h m st k x x′ o o′ n w d ex ew en =
     record {
       next = en ∙ ap (became s Playing (s .size)) (d .host);
-      buffers = rw (d .memory, d .staging, d .card);
+      buffers = rw (d .memory, d .staging, d .card, ex);
       said = rw ew (d .said);
     }
 
@@ -34,28 +34,34 @@ pub bad-answers : (s next′ : Session) (b : Buffers) (o o′ : List ℕ) (n : �
 unfolding badAnswer
 bad-answers s next′ b o o′ n e p = record { next = e; buffers = refl; said = p }
 
-pub mount-fine : (s next′ : Session) (b : Buffers) (m m′ : Mounted) (o : List ℕ) (t : Bool) → m ≡ m′ → t ≡ isFine (m .code) → t ≡ true
-    → next′ ≡ became s Playing (s .size) (m .host) → Answers (mountAnswer s b m′) next′ b o o 0
-unfolding mountAnswer
-mount-fine s next′ b m m′ o t e f g en =
-    rw (sym (ap (λ (x : Mounted). isFine (x .code)) e) ∙ sym f ∙ g)
-    (record { next = en ∙ ap (λ (x : Mounted). became s Playing (s .size) (x .host)) e; buffers = refl; said = put-none o 0 (omega arith) })
+-- mount, with the table x′ that it left
+module _ (s next′ : Session) (b : Buffers) (x x′ : List ℕ) (ex : x′ ≡ x) (m m′ : Mounted) (e : m ≡ m′) where
+  entered : buffersOf (b .memory) (b .staging) (b .card) (b .text) x′ ≡ withIndex b x
+  unfolding withIndex
+  entered = ap (buffersOf (b .memory) (b .staging) (b .card) (b .text)) ex
 
-pub mount-refused : (s next′ : Session) (b : Buffers) (m m′ : Mounted) (o o′ : List ℕ) (n : ℕ) (t : Bool) → m ≡ m′ → t ≡ isFine (m .code) → t ≡ false
-    → next′ ≡ became s Over (s .size) (s .host) → Put o o′ 0 (saidMount (m .code)) n → Answers (mountAnswer s b m′) next′ b o o′ n
-unfolding mountAnswer
-mount-refused s next′ b m m′ o o′ n t e f g en p =
-    rw (sym (ap (λ (x : Mounted). isFine (x .code)) e) ∙ sym f ∙ g) (record { next = en; buffers = refl; said = rw e at p })
+  pub mount-fine : (o : List ℕ) (t : Bool) → t ≡ isFine (m .code) → t ≡ true → next′ ≡ became s Playing (s .size) (m .host)
+      → Answers (mountAnswer s (withIndex b x) m′) next′ (buffersOf (b .memory) (b .staging) (b .card) (b .text) x′) o o 0
+  unfolding mountAnswer
+  mount-fine o t f g en =
+      rw (sym (ap (λ (y : Mounted). isFine (y .code)) e) ∙ sym f ∙ g)
+      (record { next = en ∙ ap (λ (y : Mounted). became s Playing (s .size) (y .host)) e; buffers = entered; said = put-none o 0 (omega arith) })
+
+  pub mount-refused : (o o′ : List ℕ) (n : ℕ) (t : Bool) → t ≡ isFine (m .code) → t ≡ false → next′ ≡ became s Over (s .size) (s .host) → Put o o′ 0 (saidMount (m .code)) n
+      → Answers (mountAnswer s (withIndex b x) m′) next′ (buffersOf (b .memory) (b .staging) (b .card) (b .text) x′) o o′ n
+  unfolding mountAnswer
+  mount-refused o o′ n t f g en p =
+      rw (sym (ap (λ (y : Mounted). isFine (y .code)) e) ∙ sym f ∙ g) (record { next = en; buffers = entered; said = rw e at p })
 
 pub line-on : (s next′ : Session) (b : Buffers) (line text₁ o : List ℕ) (t : Bool) (i : ℕ) → t ≡ leb (s .size + length line) 65535 → t ≡ true
     → text₁ ≡ splice (b .text) (s .size) line → i ≡ s .size + length line → next′ ≡ became s Listing (i + 1) (s .host)
-    → Answers (manifestLine s b line) next′ (buffersOf (b .memory) (b .staging) (b .card) (set text₁ i 10)) o o 0
+    → Answers (manifestLine s b line) next′ (buffersOf (b .memory) (b .staging) (b .card) (set text₁ i 10) (b .index)) o o 0
 unfolding manifestLine
 line-on s next′ b line text₁ o t i f g e ei en =
     rw (sym f ∙ g)
     (record {
       next = rw ei at en;
-      buffers = ap (buffersOf (b .memory) (b .staging) (b .card)) closed;
+      buffers = ap (λ (t′ : List ℕ). buffersOf (b .memory) (b .staging) (b .card) t′ (b .index)) closed;
       said = put-none o 0 (omega arith);
     })
   where

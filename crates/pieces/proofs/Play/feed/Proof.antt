@@ -13,12 +13,12 @@ use Rattle.pieces.proofs.Play.feed.Statement.{statement}
 use Rattle.pieces.proofs.Play.feed.Tie as tie
 
 abbrev Inv-loop : tie.InvT-loop
-Inv-loop piece line₀ memory₀ staging₀ card₀ text₀ out₀ play₀ at₀ line memory staging card text out play at =
-    fed (standOf play line (buffersOf memory staging card text)) (drop at piece) .stand
-    ≡ fed (standOf play₀ line₀ (buffersOf memory₀ staging₀ card₀ text₀)) piece .stand
+Inv-loop piece line₀ memory₀ staging₀ card₀ text₀ index₀ out₀ play₀ at₀ line memory staging card text index out play at =
+    fed (standOf play line (buffersOf memory staging card text index)) (drop at piece) .stand
+    ≡ fed (standOf play₀ line₀ (buffersOf memory₀ staging₀ card₀ text₀ index₀)) piece .stand
 
 abbrev μ-loop : tie.MeasureT-loop
-μ-loop piece line₀ memory₀ staging₀ card₀ text₀ out₀ play₀ at₀ line memory staging card text out play at =
+μ-loop piece line₀ memory₀ staging₀ card₀ text₀ index₀ out₀ play₀ at₀ line memory staging card text index out play at =
     length piece - at
 
 loop-holds : tie.Need-loop-holds Inv-loop μ-loop
@@ -31,13 +31,25 @@ tell-requires : tie.Need-tell-requires Inv-loop μ-loop
 tell-requires c κs = search needs
 
 loop-less : tie.Need-loop-less Inv-loop μ-loop
-loop-less c = omega (arith, (c .before .before .before .step) .ensures .1, gathered-ahead (now ((c .before .before .before .before .before .before .before .before .before .before .before .before .before) .args .piece)) ((c .before .before .before .before .before .before .before .before .before .before .before .loop) .at) 0 ((c .before .before .before .before .before .before .before .before .before .before .loop-test) .taken))
+loop-less c =
+    let c₁ = c .before .before .before in
+    let c₂ = c₁ .before .before .before .before .before .before .before .before in
+    let c₃ = c₂ .before in
+    let c₄ = c₃ .before .before in
+    omega (arith, c₁ .step .ensures .1, gathered-ahead (now (c₄ .args .piece)) (c₃ .loop .at) 0 (c₂ .loop-test .taken))
 
 loop-again : tie.Need-loop-again Inv-loop μ-loop
-loop-again c = feed-more (now ((c .before .before .before .before .before .before .before .before .before .before .before .before .before) .args .piece)) ((c .before .before .before .before .before .before .before .before .before .before .before .loop) .at) _ _ _ _ _ _ _ ((c .before .before .before .step) .ensures .0) ((c .before .before .before .step) .ensures .1) ((c .before .before .before .before .before .before .before .before .before .before .before .loop) .inv)
+loop-again c =
+    let c₁ = c .before .before .before in
+    let c₂ = c₁ .before .before .before .before .before .before .before .before .before in
+    let c₃ = c₂ .before .before in
+    feed-more (now (c₃ .args .piece)) (c₂ .loop .at) _ _ _ _ _ _ _ (c₁ .step .ensures .0) (c₁ .step .ensures .1) (c₂ .loop .inv)
 
 returns : tie.Need-returns Inv-loop μ-loop
-returns c = feed-done (now ((c .before .before .before) .args .piece)) ((c .before .loop) .at) _ _ ((c .loop-test) .left) ((c .before .loop) .inv)
+returns c =
+    let c₁ = c .before in
+    let c₂ = c₁ .before .before in
+    feed-done (now (c₂ .args .piece)) (c₁ .loop .at) _ _ (c .loop-test .left) (c₁ .loop .inv)
 
 pub feed-spec : {M : Type 1} → statement M
 feed-spec =

@@ -9,15 +9,21 @@ use Rattle.session.proofs.Session.answer.Tie as tie
 
 returns : tie.Need-returns
 unfolding answered inPhase
-returns c = simp (c .before .before .before .before .before .before .enum-told .given .1) (c .listing .ensures)
+returns c =
+    let c₁ = c .before .before .before .before .before .before .before in
+    simp (c₁ .enum-told .given .1) (c .listing .ensures)
 
 returns-2 : tie.Need-returns-2
 unfolding answered inPhase
-returns-2 c = simp (c .before .before .before .before .before .before .enum-told2 .given .1) (c .overfull .ensures)
+returns-2 c =
+    let c₁ = c .before .before .before .before .before .before .before in
+    simp (c₁ .enum-told2 .given .1) (c .overfull .ensures)
 
 returns-3 : tie.Need-returns-3
 unfolding answered inPhase
-returns-3 c = simp (c .before .before .before .before .before .before .enum-told3 .given .1) (c .playing .ensures)
+returns-3 c =
+    let c₁ = c .before .before .before .before .before .before .before in
+    simp (c₁ .enum-told3 .given .1) (c .playing .ensures)
 
 returns-4 : tie.Need-returns-4
 unfolding answered inPhase

@@ -7,11 +7,17 @@ use Rattle.session.proofs.Session.listing.Tie as tie
 
 returns : tie.Need-returns
 unfolding listing goWord
-returns c = simp (← c .before .before .before .before .before .before .before .same .ensures, c .before .before .before .before .before .before .if1 .taken) (c .mount .ensures)
+returns c =
+    let c₁ = c .before .before .before .before .before .before .before in
+    let c₂ = c₁ .before in
+    simp (← c₂ .same .ensures, c₁ .if1 .taken) (c .mount .ensures)
 
 returns-2 : tie.Need-returns-2
 unfolding listing goWord
-returns-2 c = simp (← c .before .before .before .before .before .before .before .same .ensures, c .before .before .before .before .before .before .if1 .left) (c .manifest-line .ensures)
+returns-2 c =
+    let c₁ = c .before .before .before .before .before .before .before in
+    let c₂ = c₁ .before in
+    simp (← c₂ .same .ensures, c₁ .if1 .left) (c .manifest-line .ensures)
 
 pub listing-spec : {M : Type 1} → statement M
 listing-spec =

@@ -11,25 +11,52 @@ use Rattle.session.proofs.Session.manifest_line.Statement.{statement}
 use Rattle.session.proofs.Session.manifest_line.Tie as tie
 
 copy-at-requires : tie.Need-copy-at-requires
-copy-at-requires c κs = omega (arith, leb-true (c .before .before .before .before .before .args .self .size + length (now (c .before .before .before .before .before .args .line))) 65535 (sym (c .before .before .within .ensures) ∙ c .before .if1 .taken))
+copy-at-requires c κs =
+    let c₁ = c .before in
+    let c₂ = c₁ .before in
+    let c₃ = c₂ .before .before .before in
+    omega (arith, leb-true (c₃ .args .self .size + length (now (c₃ .args .line))) 65535 (sym (c₂ .within .ensures) ∙ c₁ .if1 .taken))
 
 add-text : tie.Need-add-text
-add-text c = omega (arith, leb-true (c .before .before .before .before .before .before .args .self .size + length (now (c .before .before .before .before .before .before .args .line))) 65535 (sym (c .before .before .before .within .ensures) ∙ c .before .before .if1 .taken))
+add-text c =
+    let c₁ = c .before .before in
+    let c₂ = c₁ .before in
+    let c₃ = c₂ .before .before .before in
+    omega (arith, leb-true (c₃ .args .self .size + length (now (c₃ .args .line))) 65535 (sym (c₂ .within .ensures) ∙ c₁ .if1 .taken))
 
 element-write-text : tie.Need-element-write-text
-element-write-text c = omega (arith, leb-true (c .before .before .before .before .before .before .args .self .size + length (now (c .before .before .before .before .before .before .args .line))) 65535 (sym (c .before .before .before .within .ensures) ∙ c .before .before .if1 .taken))
+element-write-text c =
+    let c₁ = c .before .before in
+    let c₂ = c₁ .before in
+    let c₃ = c₂ .before .before .before in
+    omega (arith, leb-true (c₃ .args .self .size + length (now (c₃ .args .line))) 65535 (sym (c₂ .within .ensures) ∙ c₁ .if1 .taken))
 
 add-became : tie.Need-add-became
-add-became c = omega (arith, leb-true (c .before .before .before .before .before .before .args .self .size + length (now (c .before .before .before .before .before .before .args .line))) 65535 (sym (c .before .before .before .within .ensures) ∙ c .before .before .if1 .taken))
+add-became c =
+    let c₁ = c .before .before in
+    let c₂ = c₁ .before in
+    let c₃ = c₂ .before .before .before in
+    omega (arith, leb-true (c₃ .args .self .size + length (now (c₃ .args .line))) 65535 (sym (c₂ .within .ensures) ∙ c₁ .if1 .taken))
 
 add-became-2 : tie.Need-add-became-2
-add-became-2 c = omega (arith, leb-true (c .before .before .before .before .before .before .args .self .size + length (now (c .before .before .before .before .before .before .args .line))) 65535 (sym (c .before .before .before .within .ensures) ∙ c .before .before .if1 .taken))
+add-became-2 c =
+    let c₁ = c .before .before in
+    let c₂ = c₁ .before in
+    let c₃ = c₂ .before .before .before in
+    omega (arith, leb-true (c₃ .args .self .size + length (now (c₃ .args .line))) 65535 (sym (c₂ .within .ensures) ∙ c₁ .if1 .taken))
 
 returns : tie.Need-returns
-returns c = line-on _ _ _ _ _ _ _ _ (c .before .before .before .before .within .ensures) (c .before .before .before .if1 .taken) (c .before .copy-at .ensures) refl (c .became .ensures)
+returns c =
+    let c₁ = c .before in
+    let c₂ = c₁ .before .before in
+    let c₃ = c₂ .before in
+    line-on _ _ _ _ _ _ _ _ (c₃ .within .ensures) (c₂ .if1 .taken) (c₁ .copy-at .ensures) refl (c .became .ensures)
 
 returns-2 : tie.Need-returns-2
-returns-2 c = line-over _ _ _ _ _ _ (c .before .before .within .ensures) (c .before .if1 .left) (c .became2 .ensures)
+returns-2 c =
+    let c₁ = c .before in
+    let c₂ = c₁ .before in
+    line-over _ _ _ _ _ _ (c₂ .within .ensures) (c₁ .if1 .left) (c .became2 .ensures)
 
 pub manifest-line-spec : {M : Type 1} → statement M
 manifest-line-spec =

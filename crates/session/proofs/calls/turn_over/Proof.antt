@@ -7,7 +7,11 @@ use Rattle.session.proofs.calls.turn_over.Statement.{statement}
 use Rattle.session.proofs.calls.turn_over.Tie as tie
 
 returns : tie.Need-returns
-returns c = return-does _ _ _ _ _ _ _ _ _ _ (c .before .before .before .module-return .ensures .0 ∙ simp (coded _ _ (c .before .before .before .before .before .before .code-of .ensures), c .before .before .before .before .before .before .before .field .ensures .0)) (c .before .before .before .module-return .ensures .1 .0 ∙ simp (coded _ _ (c .before .before .before .before .before .before .code-of .ensures), c .before .before .before .before .before .before .before .field .ensures .0)) (c .before .before .before .module-return .ensures .1 .1 ∙ simp (coded _ _ (c .before .before .before .before .before .before .code-of .ensures), c .before .before .before .before .before .before .before .field .ensures .0)) (c .say-fate .ensures)
+returns c =
+    let c₁ = c .before .before .before in
+    let c₂ = c₁ .before .before .before .before in
+    let c₃ = c₂ .before in
+    (return-does _ _ _ _ _ _ _ _ _ _ _ (c₁ .module-return .ensures .0 ∙ simp (coded _ _ (c₂ .code-of .ensures), c₃ .field .ensures .0)) (c₁ .module-return .ensures .1 .0 ∙ simp (coded _ _ (c₂ .code-of .ensures), c₃ .field .ensures .0)) (c₁ .module-return .ensures .1 .1 .1 ∙ simp (coded _ _ (c₂ .code-of .ensures), c₃ .field .ensures .0)) (c .say-fate .ensures), c₁ .module-return .ensures .1 .1 .0 ∙ simp (coded _ _ (c₂ .code-of .ensures), c₃ .field .ensures .0))
 
 pub turn-over-spec : {M : Type 1} → statement M
 turn-over-spec =
