@@ -5,6 +5,7 @@ mod chains;
 mod look;
 mod pages;
 mod show;
+mod tables;
 
 use cases::which;
 use saying::word;

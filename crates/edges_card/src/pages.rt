@@ -1,8 +1,13 @@
 // What cursors and reads list, page by page.
 use crate::show;
 use crate::show::Step;
+use crate::tables::table_of;
 use card::Cursor;
+use card::Numbers;
+use card::Query;
 use card::Wanted;
+use card::Way;
+use manifest::Manifest;
 use record::EventId;
 use text::lines::field;
 
@@ -23,23 +28,25 @@ fn cursor(l: &[u8]) -> Cursor {
     }
 }
 
-// Of the first n bytes of the card, whose records are numbered up to `next`, for a module: 1 may list one topic, 2 none, 3 all four.
+// Of the first n bytes of the card, by the table of the whole of it; it is said to have the numbers below `next`. For a module: 1 may list one topic, 2
+// none, 3 all four.
 fn one(l: &[u8], card: &[u8], c: Cursor) -> Step {
     let text =
         b"modules\t3\ngrant\t1\tin\tloop/take\ngrant\t2\tout\tloop/take\ngrant\t3\tin\tloop/take\ngrant\t3\tin\ta\ngrant\t3\tin\tloop/mix\ngrant\t3\tin\tloop/take/2\n";
-    let w = Wanted::Granted(cases::number(l, 3));
     let s = le::front(card, cases::size(l, 1));
-    let cap = cases::size(l, 9);
-    show::page(
-        s,
-        1,
-        cases::number(l, 2),
-        text,
-        w,
-        c,
-        cap,
-        cases::size(l, 10),
-    )
+    let table = table_of(le::front(card, 992), 1);
+    let first = EventId(1);
+    let grants = Manifest::read(text);
+    let q = Query {
+        way: Way::Indexed,
+        first,
+        numbers: c.window(first, EventId(cases::number(l, 2))),
+        grants,
+        wanted: Wanted::Granted(cases::number(l, 3)),
+        cursor: c,
+        cap: cases::size(l, 9),
+    };
+    show::page(s, &table, text, q, cases::size(l, 10))
 }
 
 // page n next module filter from to limit desc cap out
@@ -61,19 +68,24 @@ pub(crate) fn pages(l: &[u8], card: &[u8]) {
     }
 }
 
-// read topic start cap out: of the staged records.
+// read topic start cap out: of the staged records, which have no table.
 pub(crate) fn read(l: &[u8], card: &[u8]) {
-    let c = Cursor::reading(EventId(cases::number(l, 2)));
     let s = le::cut(card, 992, 296);
-    let cap = cases::size(l, 3);
-    show::page(
-        s,
-        7,
-        9,
-        field(l, 1),
-        Wanted::Exactly,
-        c,
-        cap,
-        cases::size(l, 4),
-    );
+    let from = EventId(7);
+    let to = EventId(9);
+    if card::walk::chain_to(s, from, to) {
+        let text = field(l, 1);
+        let grants = Manifest::read(text);
+        let q = Query {
+            way: Way::Walked,
+            first: from,
+            numbers: Numbers { from, to },
+            grants,
+            wanted: Wanted::Exactly,
+            cursor: Cursor::reading(EventId(cases::number(l, 2))),
+            cap: cases::size(l, 3),
+        };
+        let table = [0u32; 1];
+        show::page(s, &table, text, q, cases::size(l, 4));
+    }
 }

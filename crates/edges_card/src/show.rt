@@ -1,10 +1,11 @@
 // A page: its bytes and the numbers of its records, and where the cursor then stands.
+ghost use mathlib.Core.Path.{_≡_};
+ghost use mathlib.Core.Bool.{true};
+ghost use Rattle.card.specs.Look.{CanWalk};
+ghost use Rattle.card.specs.declared.Page.the-variants.{Fault};
 use card::Cursor;
 use card::Page;
 use card::Query;
-use card::Wanted;
-use manifest::Manifest;
-use record::EventId;
 use record::Header;
 use saying::number;
 use saying::word;
@@ -74,6 +75,11 @@ fn found(p: Page, memory: &[u8], out: usize) -> bool {
             kept(memory);
             false
         }
+        Page::Fault => {
+            word(b": not sound");
+            kept(memory);
+            true
+        }
         Page::Bytes(n) => {
             word(b":");
             number(n as u64);
@@ -94,23 +100,24 @@ fn stands(c: Cursor) {
     number(c.limit);
 }
 
-// The cursor's next page in cap bytes at the address `out`, of the part s, whose records are numbered from first up to next.
-pub(crate) fn page(
-    s: &[u8],
-    first: u64,
-    next: u64,
-    text: &[u8],
-    w: Wanted,
-    c: Cursor,
-    cap: usize,
-    out: usize,
-) -> Step {
-    if 9223372036854775808 < first {
-        return Step {
-            cursor: c,
-            ended: true,
-        };
+// Every record that was looked at is sound; else there is no page to copy.
+fn sound(p: Page) -> bool
+    ensures { λ r. ⌜ (r ≡ true → p ≡ Fault → ⊥) ⌝ }
+{
+    match p {
+        Page::Fault => false,
+        Page::End => true,
+        Page::Short => true,
+        Page::Bytes(_) => true,
     }
+}
+
+// The page that is asked for, at the address `out`, of the part s with its table.
+pub(crate) fn page(s: &[u8], table: &[u32], text: &[u8], q: Query, out: usize) -> Step
+    requires { ⌜ CanWalk q (now s) ⌝ }
+{
+    let cap = q.cap;
+    let c = q.cursor;
     if 1024 < cap {
         return Step {
             cursor: c,
@@ -123,21 +130,10 @@ pub(crate) fn page(
             ended: true,
         };
     }
-    let a = EventId(first);
-    let e = EventId(next);
-    if card::walk::chain_to(s, a, e) {
-        let grants = Manifest::read(text);
-        let q = Query {
-            first: a,
-            next: e,
-            grants,
-            wanted: w,
-            cursor: c,
-            cap,
-        };
-        let p = card::pages::measure(s, text, text, q);
-        let mut memory = [0xEEu8; 2048];
-        let after = card::pages::copy_page(s, text, text, q, &mut memory, out);
+    let p = card::pages::measure(s, table, text, text, q);
+    let mut memory = [0xEEu8; 2048];
+    if sound(p) {
+        let after = card::pages::copy_page(s, table, text, text, q, &mut memory, out);
         let ended = found(p, &memory, out);
         stands(after);
         return Step {
@@ -145,9 +141,7 @@ pub(crate) fn page(
             ended,
         };
     }
-    word(b": not such a chain");
-    Step {
-        cursor: c,
-        ended: true,
-    }
+    let ended = found(p, &memory, out);
+    stands(c);
+    Step { cursor: c, ended }
 }

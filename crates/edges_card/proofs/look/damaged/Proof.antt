@@ -6,10 +6,10 @@ use Rattle.edges_card.proofs.look.damaged.Statement.{statement}
 use Rattle.edges_card.proofs.look.damaged.Tie as tie
 
 abbrev Inv-loop : tie.InvT-loop
-Inv-loop s id₀ t4 id = id ≤ 7
+Inv-loop s table id₀ t5 id = id ≤ 7
 
 abbrev μ-loop : tie.MeasureT-loop
-μ-loop s id₀ t4 id = 7 - id
+μ-loop s table id₀ t5 id = 7 - id
 
 chain-requires : tie.Need-chain-requires Inv-loop μ-loop
 chain-requires c κs = search needs
@@ -23,8 +23,11 @@ word-requires c κs = search needs
 loop-holds : tie.Need-loop-holds Inv-loop μ-loop
 loop-holds c = omega arith
 
-length-requires : tie.Need-length-requires Inv-loop μ-loop
-length-requires c κs = search needs
+by-table-requires : tie.Need-by-table-requires Inv-loop μ-loop
+by-table-requires c κs = search needs
+
+number-requires : tie.Need-number-requires Inv-loop μ-loop
+number-requires c κs = search needs
 
 add-id : tie.Need-add-id Inv-loop μ-loop
 add-id c = omega arith
@@ -54,7 +57,8 @@ damaged-spec =
     slice-aggregate-word
     word-requires
     loop-holds
-    length-requires
+    by-table-requires
+    number-requires
     add-id
     loop-less
     loop-again

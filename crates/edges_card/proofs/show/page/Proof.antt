@@ -1,15 +1,13 @@
--- `edges_card::show::page` is safe and ends: the chain was tested. Assumes nothing but what `io` does of the C library.
-use mathlib.Core.Path.{sym, _∙_}
+-- `edges_card::show::page` is safe and ends: a page is copied where it was found sound. Assumes nothing but what `io` does of the C library.
+use mathlib.Core.Path.{_∙_}
 use native.Mathlib.Omega.{arith}
+use Rattle.card.proofs.LookLaws.{no-fault}
 use borrow.Author.Needs.{needs}
 use Rattle.edges_card.proofs.show.page.Statement.{statement}
 use Rattle.edges_card.proofs.show.page.Tie as tie
 
-measure-requires : tie.Need-measure-requires
-measure-requires c κs = sym (c .before .before .chain-to .ensures) ∙ c .before .if4 .taken
-
 copy-page-requires : tie.Need-copy-page-requires
-copy-page-requires c κs = (sym (c .before .before .before .before .chain-to .ensures) ∙ c .before .before .before .if4 .taken, omega arith)
+copy-page-requires c κs = (c .before .before .before .before .before .before .before .before .before .before .pre, (no-fault _ (λ e. c .before .before .sound .ensures (c .before .if3 .taken) (c .before .before .before .measure .ensures ∙ e)), omega arith))
 
 pub page-spec : {M : Type 1} → statement M
 page-spec =
@@ -17,10 +15,8 @@ page-spec =
     (tie.spec
     (λ c. search needs)
     (λ c. search needs)
-    (λ c. search needs)
     (λ c κs. search needs)
     (λ c κs. search needs)
-    measure-requires
     (λ c. search needs)
     copy-page-requires
     (λ c. search needs)
@@ -28,5 +24,6 @@ page-spec =
     (λ c κs. search needs)
     (λ c. search needs)
     (λ c. search needs)
+    (λ c κs. search needs)
     (λ c κs. search needs)
     (λ c. search needs))

@@ -1,0 +1,28 @@
+-- `edges_card::pages::read` is safe and ends: the chain was tested. Assumes nothing but what `io` does of the C library.
+use mathlib.Core.Path.{refl, sym, ap, _∙_}
+use Rattle.card.specs.declared.Cursor.{Cursor}
+use Rattle.card.specs.Listing.{reading}
+use borrow.Author.Needs.{needs}
+use Rattle.edges_card.proofs.pages.read.Statement.{statement}
+use Rattle.edges_card.proofs.pages.read.Tie as tie
+
+page-requires : tie.Need-page-requires
+unfolding reading
+page-requires c κs = λ _. record { chained = sym (c .before .before .before .before .before .before .before .before .chain-to .ensures) ∙ c .before .before .before .before .before .before .before .if1 .taken; from-first = refl; upward = ap (λ (d : Cursor). d .desc) (c .before .before .before .reading .ensures) }
+
+pub read-spec : {M : Type 1} → statement M
+read-spec =
+    tie.close
+    (tie.spec
+    (λ c κs. search needs)
+    (λ c κs. search needs)
+    (λ c κs. search needs)
+    (λ c κs. search needs)
+    (λ c κs. search needs)
+    (λ c κs. search needs)
+    (λ c κs. search needs)
+    (λ c. search needs)
+    (λ c κs. search needs)
+    page-requires
+    (λ c. search needs)
+    (λ c. search needs))
