@@ -33,12 +33,13 @@ fn answered(
     staging: &mut [u8],
     card: &[u8],
     text: &[u8],
+    index: &[u32],
     at: u64,
 ) -> Answer {
     match k {
         2 => reads::read::read(h, memory, staging, card, text, at),
         3 => h.open(memory, staging, card, text, at),
-        4 => reads::next::next(h, memory, staging, card, text, at),
+        4 => reads::next::next(h, memory, staging, card, text, index, at),
         5 => h.close(memory, staging, card, text, at),
         _ => writes::write::write(h, memory, staging, card, text, at),
     }
@@ -51,10 +52,11 @@ pub(crate) fn by_module(
     staging: &mut [u8],
     card: &[u8],
     text: &[u8],
+    index: &[u32],
     at: u64,
 ) -> Host {
     let out = out_of(k, memory, at);
-    let a = answered(h, k, memory, staging, card, text, at);
+    let a = answered(h, k, memory, staging, card, text, index, at);
     let c = a.code;
     say::answer(c, a.value);
     say::field(c.bad(), a.field);
@@ -82,8 +84,8 @@ pub(crate) fn ingress(
 }
 
 // mount used
-pub(crate) fn mount(l: &[u8], staging: &[u8], card: &[u8], text: &[u8]) -> Host {
-    let m = mounts::mount::mount(staging, card, text, number(l, 1) as usize);
+pub(crate) fn mount(l: &[u8], staging: &[u8], card: &[u8], text: &[u8], index: &mut [u32]) -> Host {
+    let m = mounts::mount::mount(staging, card, text, index, number(l, 1) as usize);
     let c = m.code;
     say::answer(c, 0);
     saying::word(b" at");
@@ -131,17 +133,31 @@ fn say_fate(f: Fate) {
 }
 
 // return code
-pub(crate) fn ending(h: Host, l: &[u8], staging: &mut [u8], card: &mut [u8], text: &[u8]) -> Host {
-    let r = h.module_return(staging, card, text, words::returned(l));
+pub(crate) fn ending(
+    h: Host,
+    l: &[u8],
+    staging: &mut [u8],
+    card: &mut [u8],
+    text: &[u8],
+    index: &mut [u32],
+) -> Host {
+    let r = h.module_return(staging, card, text, index, words::returned(l));
     let f = r.fate;
     say_fate(f);
     r.host
 }
 
 // lookup id: how long the record is, its own number, and the sum of its bytes.
-pub(crate) fn look_up<'a>(h: Host, l: &[u8], staging: &'a [u8], card: &'a [u8], text: &[u8]) {
+pub(crate) fn look_up<'a>(
+    h: Host,
+    l: &[u8],
+    staging: &'a [u8],
+    card: &'a [u8],
+    text: &[u8],
+    index: &[u32],
+) {
     let id = EventId(number(l, 1));
-    let r = mounts::look::look_up(h, staging, card, text, id);
+    let r = mounts::look::look_up(h, staging, card, text, index, id);
     if r.len() == 0 {
         saying::word(b" none");
         return;

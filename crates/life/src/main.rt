@@ -19,6 +19,11 @@ type Buffer = [u8; 65536];
 // More than a memory or a staging buffer may have.
 type Large = [u8; 1048584];
 
+// As many entries as a card of 65,536 bytes can need.
+const ENTRIES: usize = 481;
+
+type Table = [u32; ENTRIES];
+
 fn large() -> Large
     ensures { λ r. ⌜ 1048584 ≡ length r ⌝ }
 {
@@ -26,17 +31,19 @@ fn large() -> Large
 }
 
 fn main() {
-    let mut text = io::large_buffer();
+    let mut text = large();
     let n = io::read_full(0, &mut text);
     let mut memory = large();
     let mut staging = large();
     let mut card = io::large_buffer();
     let mut manifest = io::large_buffer();
+    let mut index = [0u32; ENTRIES];
     script::each(
         &text[..n],
         &mut memory,
         &mut staging,
         &mut card,
         &mut manifest,
+        &mut index,
     );
 }

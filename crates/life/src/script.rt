@@ -1,12 +1,14 @@
 // The steps. A line that begins with no step's word is a heading.
 use crate::Buffer;
 use crate::Large;
+use crate::Table;
 use crate::calls;
 use crate::hand;
 use crate::lay;
 use crate::show;
 use crate::state;
 use crate::words::lent;
+use crate::words::lent_entries;
 use cases::number;
 use cases::which;
 use host::Host;
@@ -23,16 +25,24 @@ fn none() -> Host {
         card: 0,
         manifest: 0,
     };
-    Host::fresh(lengths, 0, EventId(0))
+    Host::fresh(lengths, 0, 0, EventId(0))
 }
 
-// What changes no buffer: 0 state, 1 mount, 2 lookup.
-fn looked<'a>(h: Host, k: usize, l: &[u8], staging: &'a [u8], card: &'a [u8], text: &[u8]) -> Host {
+// What changes no byte: 0 state, 1 mount, 2 lookup.
+fn looked<'a>(
+    h: Host,
+    k: usize,
+    l: &[u8],
+    staging: &'a [u8],
+    card: &'a [u8],
+    text: &[u8],
+    index: &mut [u32],
+) -> Host {
     match k {
         0 => state::set(h, l),
-        1 => calls::mount(l, staging, card, text),
+        1 => calls::mount(l, staging, card, text, index),
         _ => {
-            calls::look_up(h, l, staging, card, text);
+            calls::look_up(h, l, staging, card, text, index);
             h
         }
     }
@@ -47,10 +57,11 @@ fn staged(
     staging: &mut [u8],
     card: &mut [u8],
     text: &[u8],
+    index: &mut [u32],
 ) -> Host {
     match k {
         3 => calls::begin(h, l, staging, card, text),
-        4 => calls::ending(h, l, staging, card, text),
+        4 => calls::ending(h, l, staging, card, text, index),
         _ => calls::ingress(h, memory, staging, card, text),
     }
 }
@@ -80,6 +91,7 @@ fn done(
     staging: &mut [u8],
     card: &mut [u8],
     text: &[u8],
+    index: &mut [u32],
 ) -> Host {
     let k = which(
         b"state\tmount\tlookup\tbegin\treturn\tingress\twrite\tvalue\tread\topen\tnext\tclose\tcall",
@@ -90,16 +102,16 @@ fn done(
     }
     word(b":");
     if k < 3 {
-        return looked(h, k, l, staging, card, text);
+        return looked(h, k, l, staging, card, text, index);
     }
     if k < 6 {
-        return staged(h, k, l, memory, staging, card, text);
+        return staged(h, k, l, memory, staging, card, text, index);
     }
     let c = called(l);
     if c.k == 6 {
-        return staged(h, 5, l, memory, staging, card, text);
+        return staged(h, 5, l, memory, staging, card, text, index);
     }
-    calls::by_module(h, c.k, memory, staging, card, text, c.at)
+    calls::by_module(h, c.k, memory, staging, card, text, index, c.at)
 }
 
 // A step, and what it has changed.
@@ -110,12 +122,14 @@ fn shown(
     staging: &mut [u8],
     card: &mut [u8],
     text: &[u8],
+    index: &mut [u32],
 ) -> Host {
-    let was = show::sums(memory, staging, card);
-    let after = done(h, l, memory, staging, card, text);
+    let was = show::sums(memory, staging, card, index);
+    let after = done(h, l, memory, staging, card, text, index);
     show::state(h, after);
-    let is = show::sums(memory, staging, card);
-    show::changed(b"memory sum\tstaging sum\tcard sum", &was, &is);
+    let is = show::sums(memory, staging, card, index);
+    let names = b"memory sum\tstaging sum\tcard sum\tindex sum";
+    show::changed(names, &was, &is);
     word(b"\n");
     after
 }
@@ -123,17 +137,19 @@ fn shown(
 // A step with as much of each buffer as is lent.
 fn step(
     h: Host,
-    is: [usize; 4],
+    is: [usize; 5],
     l: &[u8],
     memory: &mut [u8],
     staging: &mut [u8],
     card: &mut [u8],
     manifest: &[u8],
+    index: &mut [u32],
 ) -> Host {
     let m = lent(is[0], memory);
     let s = lent(is[1], staging);
     let c = lent(is[2], card);
     let text = le::front(manifest, is[3]);
+    let n = lent_entries(is[4], index);
     shown(
         h,
         l,
@@ -141,27 +157,29 @@ fn step(
         &mut staging[..s],
         &mut card[..c],
         text,
+        &mut index[..n],
     )
 }
 
 // The line, and what it does by hand; how much is lent.
 fn by_hand(
-    is: [usize; 4],
+    is: [usize; 5],
     l: &[u8],
     memory: &mut Large,
     staging: &mut Large,
     card: &mut Buffer,
     manifest: &mut Buffer,
-) -> [usize; 4] {
+    index: &mut Table,
+) -> [usize; 5] {
     word(l);
-    hand::bytes(l, memory, staging, card, manifest);
+    hand::bytes(l, memory, staging, card, manifest, index);
     hand::lengths(is, l, manifest)
 }
 
-// The box, and how much of memory, staging, card and manifest is lent to it.
+// The box, and how much of memory, staging, card, manifest and index is lent to it.
 struct Life {
     host: Host,
-    lent: [usize; 4],
+    lent: [usize; 5],
 }
 
 fn lived(
@@ -171,10 +189,11 @@ fn lived(
     staging: &mut Large,
     card: &mut Buffer,
     manifest: &mut Buffer,
+    index: &mut Table,
 ) -> Life {
     let before = was.lent;
-    let lent = by_hand(before, l, memory, staging, card, manifest);
-    let host = step(was.host, lent, l, memory, staging, card, manifest);
+    let lent = by_hand(before, l, memory, staging, card, manifest, index);
+    let host = step(was.host, lent, l, memory, staging, card, manifest, index);
     Life { host, lent }
 }
 
@@ -184,14 +203,15 @@ pub(crate) fn each(
     staging: &mut Large,
     card: &mut Buffer,
     manifest: &mut Buffer,
+    index: &mut Table,
 ) {
     let host = none();
-    let lent = [0usize; 4];
+    let lent = [0usize; 5];
     let mut life = Life { host, lent };
     let mut at: usize = 0;
     while at < text.len() {
         let l = line(text, at);
         at += l.len() + 1;
-        life = lived(life, l, memory, staging, card, manifest);
+        life = lived(life, l, memory, staging, card, manifest, index);
     }
 }

@@ -1,5 +1,6 @@
 // What has changed in the host's state and in the buffers.
 use crate::say;
+use crate::words::entry_sum;
 use crate::words::sum;
 use host::Host;
 use saying::word;
@@ -14,7 +15,7 @@ fn flag(b: bool) -> u64 {
     0
 }
 
-fn of_host(h: Host) -> [u64; 6] {
+fn of_host(h: Host) -> [u64; 7] {
     let n = h.lengths;
     let next = h.next;
     [
@@ -24,6 +25,7 @@ fn of_host(h: Host) -> [u64; 6] {
         n.staging as u64,
         n.card as u64,
         n.manifest as u64,
+        h.index as u64,
     ]
 }
 
@@ -97,13 +99,13 @@ fn weave(was: Weave, is: Weave) {
 }
 
 pub(crate) fn state(was: Host, is: Host) {
-    let names = b"faulted\tused\tnext\tstaging length\tcard length\tmanifest length";
+    let names = b"faulted\tused\tnext\tstaging length\tcard length\tmanifest length\tindex length";
     changed(names, &of_host(was), &of_host(is));
     let a = was.weave;
     let b = is.weave;
     weave(a, b);
 }
 
-pub(crate) fn sums(memory: &[u8], staging: &[u8], card: &[u8]) -> [u64; 3] {
-    [sum(memory), sum(staging), sum(card)]
+pub(crate) fn sums(memory: &[u8], staging: &[u8], card: &[u8], index: &[u32]) -> [u64; 4] {
+    [sum(memory), sum(staging), sum(card), entry_sum(index)]
 }

@@ -29,14 +29,14 @@ fn with_length(was: Lengths, k: usize, n: usize) -> Lengths {
 fn with_field(was: Weave, k: usize, n: u64) -> Weave {
     let mut w = was;
     match k {
-        6 => w.running = n == 1,
-        7 => return w.spoilt(spoiled_by(n)),
-        8 => w.turn = n,
-        9 => w.late = n == 1,
-        10 => w.staged = n as usize,
-        11 => w.count = n,
-        12 => w.units = n,
-        13 => w.resmax = n,
+        7 => w.running = n == 1,
+        8 => return w.spoilt(spoiled_by(n)),
+        9 => w.turn = n,
+        10 => w.late = n == 1,
+        11 => w.staged = n as usize,
+        12 => w.count = n,
+        13 => w.units = n,
+        14 => w.resmax = n,
         _ => w.opened = n,
     }
     w
@@ -48,9 +48,10 @@ fn own(was: Host, k: usize, n: u64) -> Host {
     let lengths = with_length(h.lengths, k, n as usize);
     let id = EventId(n);
     match k {
-        3 => h.faulted = n == 1,
-        4 => h.used = n as usize,
-        5 => h.next = id,
+        3 => h.index = n as usize,
+        4 => h.faulted = n == 1,
+        5 => h.used = n as usize,
+        6 => h.next = id,
         _ => h.lengths = lengths,
     }
     h
@@ -59,11 +60,11 @@ fn own(was: Host, k: usize, n: u64) -> Host {
 // state field number
 pub(crate) fn set(was: Host, l: &[u8]) -> Host {
     let k = which(
-        b"staging length\tcard length\tmanifest length\tfaulted\tused\tnext\trunning\tspoiled\tturn\tlate\tstaged\tcount\tunits\tmost\topened",
+        b"staging length\tcard length\tmanifest length\tindex length\tfaulted\tused\tnext\trunning\tspoiled\tturn\tlate\tstaged\tcount\tunits\tmost\topened",
         field(l, 1),
     );
     let n = number(l, 2);
-    if k < 6 {
+    if k < 7 {
         return own(was, k, n);
     }
     let mut h = was;

@@ -1,5 +1,6 @@
 // A step's words and numbers, and sums of bytes.
-ghost use Prim.Native.Nat.{_<_};
+ghost use Prim.Native.Nat.{_<_, _≤_};
+ghost use lib.ListN.{length};
 ghost use Rattle.io.specs.Counts.{Counts};
 use cases::number;
 use text::compare::same;
@@ -45,6 +46,16 @@ pub(crate) fn lent(n: usize, s: &[u8]) -> usize
     s.len()
 }
 
+// The same of a table's entries.
+pub(crate) fn lent_entries(n: usize, s: &[u32]) -> usize
+    ensures { λ r. ⌜ r ≤ length (now (s .entry)) ⌝ }
+{
+    if n < s.len() {
+        return n;
+    }
+    s.len()
+}
+
 fn wide(b: u8) -> u64
     ensures { λ r. ⌜ r < 256 ⌝ }
 {
@@ -57,6 +68,23 @@ pub(crate) fn sum(s: &[u8]) -> u64 {
     let mut i = 0;
     while i < s.len() {
         h = (h * 257 + wide(s[i])) % 4294967291;
+        i += 1;
+    }
+    h
+}
+
+fn wide_entry(n: u32) -> u64
+    ensures { λ r. ⌜ r < 4294967296 ⌝ }
+{
+    n as u64
+}
+
+// The same of a table's entries.
+pub(crate) fn entry_sum(s: &[u32]) -> u64 {
+    let mut h: u64 = 1;
+    let mut i = 0;
+    while i < s.len() {
+        h = (h * 257 + wide_entry(s[i])) % 4294967291;
         i += 1;
     }
     h

@@ -10,10 +10,13 @@ sub-if2 : tie.Need-sub-if2
 sub-if2 c = omega (arith, whole-next _ _ _ (sym (c .before .before .before .before .check-chain .ensures) ∙ c .before .before .c .given .1))
 
 enter-requires : tie.Need-enter-requires
-enter-requires c κs =
-    (whole-size _ _ _ (sym (c .before .before .before .before .before .before .check-chain .ensures) ∙ c .before .before .before .before .c .given .1),
-    (omega (arith, whole-next _ _ _ (sym (c .before .before .before .before .before .before .check-chain .ensures) ∙ c .before .before .before .before .c .given .1)),
-    omega arith))
+enter-requires c κs = (
+  whole-size _ _ _ (sym (c .before .before .before .before .before .before .check-chain .ensures) ∙ c .before .before .before .before .c .given .1),
+  (
+    omega (arith, whole-next _ _ _ (sym (c .before .before .before .before .before .before .check-chain .ensures) ∙ c .before .before .before .before .c .given .1)),
+    omega arith,
+  ),
+)
 
 pub table-of-spec : {M : Type 1} → statement M
 table-of-spec =
