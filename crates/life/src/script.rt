@@ -128,8 +128,7 @@ fn shown(
     let after = done(h, l, memory, staging, card, text, index);
     show::state(h, after);
     let is = show::sums(memory, staging, card, index);
-    let names = b"memory sum\tstaging sum\tcard sum\tindex sum";
-    show::changed(names, &was, &is);
+    show::changed(b"memory sum\tstaging sum\tcard sum\tindex sum", &was, &is);
     word(b"\n");
     after
 }

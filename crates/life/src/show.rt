@@ -1,4 +1,6 @@
 // What has changed in the host's state and in the buffers.
+ghost use mathlib.Core.Path.{_≡_};
+ghost use lib.ListN.{length};
 use crate::say;
 use crate::words::entry_sum;
 use crate::words::sum;
@@ -106,6 +108,8 @@ pub(crate) fn state(was: Host, is: Host) {
     weave(a, b);
 }
 
-pub(crate) fn sums(memory: &[u8], staging: &[u8], card: &[u8], index: &[u32]) -> [u64; 4] {
+pub(crate) fn sums(memory: &[u8], staging: &[u8], card: &[u8], index: &[u32]) -> [u64; 4]
+    ensures { λ r. ⌜ 4 ≡ length r ⌝ }
+{
     [sum(memory), sum(staging), sum(card), entry_sum(index)]
 }

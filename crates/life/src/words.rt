@@ -1,6 +1,5 @@
 // A step's words and numbers, and sums of bytes.
-ghost use Prim.Native.Nat.{_<_, _≤_};
-ghost use lib.ListN.{length};
+ghost use Prim.Native.Nat.{_<_};
 ghost use Rattle.io.specs.Counts.{Counts};
 use cases::number;
 use text::compare::same;
@@ -48,7 +47,7 @@ pub(crate) fn lent(n: usize, s: &[u8]) -> usize
 
 // The same of a table's entries.
 pub(crate) fn lent_entries(n: usize, s: &[u32]) -> usize
-    ensures { λ r. ⌜ r ≤ length (now (s .entry)) ⌝ }
+    ensures { λ r. ⌜ Counts r (now (s .entry)) ⌝ }
 {
     if n < s.len() {
         return n;

@@ -7,10 +7,10 @@ use Rattle.life.proofs.script.each.Statement.{statement}
 use Rattle.life.proofs.script.each.Tie as tie
 
 abbrev Inv-loop : tie.InvT-loop
-Inv-loop text memory₀ staging₀ card₀ manifest₀ life₀ at₀ memory staging card manifest life at = at ≤ length text + 1
+Inv-loop text memory₀ staging₀ card₀ manifest₀ index₀ life₀ at₀ memory staging card manifest index life at = at ≤ length text + 1
 
 abbrev μ-loop : tie.MeasureT-loop
-μ-loop text memory₀ staging₀ card₀ manifest₀ life₀ at₀ memory staging card manifest life at = length text + 1 - at
+μ-loop text memory₀ staging₀ card₀ manifest₀ index₀ life₀ at₀ memory staging card manifest index life at = length text + 1 - at
 
 none-requires : tie.Need-none-requires Inv-loop μ-loop
 none-requires c κs = search needs
