@@ -247,10 +247,6 @@ pub record HostOnce : Type 0 where
   pub begin-staging : SeenOnce host.Host.begin.Kinds.ps host.Host.begin.Kinds.r host.Host.begin.Reads.Learnt (λ κs z s. now (s .1 .0))
   pub «open» : ResultOnce host.Host.open.Kinds.ps host.Host.open.Kinds.r host.Host.open.Reads.Learnt
   pub close : ResultOnce host.Host.close.Kinds.ps host.Host.close.Kinds.r host.Host.close.Reads.Learnt
-  pub module-return : ResultOnce host.Host.module_return.Kinds.ps host.Host.module_return.Kinds.r host.Host.module_return.Reads.Learnt
-  pub module-return-card : SeenOnce host.Host.module_return.Kinds.ps host.Host.module_return.Kinds.r host.Host.module_return.Reads.Learnt (λ κs z s. now (s .1 .1 .0))
-  pub module-return-staging : SeenOnce host.Host.module_return.Kinds.ps host.Host.module_return.Kinds.r host.Host.module_return.Reads.Learnt (λ κs z s. now (s .1 .0))
-  pub module-return-index : SeenOnce host.Host.module_return.Kinds.ps host.Host.module_return.Kinds.r host.Host.module_return.Reads.Learnt (λ κs z s. now (s .1 .1 .1 .1 .0))
   pub fresh : ResultOnce host.Host.fresh.Kinds.ps host.Host.fresh.Kinds.r host.Host.fresh.Reads.Learnt
   pub none : ResultOnce host.Host.none.Kinds.ps host.Host.none.Kinds.r host.Host.none.Reads.Learnt
   pub lengths-of : ResultOnce host.state.lengths_of.Kinds.ps host.state.lengths_of.Kinds.r host.state.lengths_of.Reads.Learnt
@@ -269,6 +265,17 @@ pub record HostOnce : Type 0 where
 
 pub host-once : HostOnce
 host-once = search met
+
+-- ---- .. that end a turn
+
+pub record ReturnOnce : Type 0 where
+  pub module-return : ResultOnce host.Host.module_return.Kinds.ps host.Host.module_return.Kinds.r host.Host.module_return.Reads.Learnt
+  pub module-return-card : SeenOnce host.Host.module_return.Kinds.ps host.Host.module_return.Kinds.r host.Host.module_return.Reads.Learnt (λ κs z s. now (s .1 .1 .0))
+  pub module-return-staging : SeenOnce host.Host.module_return.Kinds.ps host.Host.module_return.Kinds.r host.Host.module_return.Reads.Learnt (λ κs z s. now (s .1 .0))
+  pub module-return-index : SeenOnce host.Host.module_return.Kinds.ps host.Host.module_return.Kinds.r host.Host.module_return.Reads.Learnt (λ κs z s. now (s .1 .1 .1 .1 .0))
+
+pub return-once : ReturnOnce
+return-once = search met
 
 -- ---- mount and look-up
 
