@@ -557,7 +557,7 @@ enough-entries-for-a-commit = enough-for-commit
 
 -- ==== Nothing of this holds because nothing happens
 
--- on every empty card with room for it, with every table with room for it, in every staging buffer, one event is begun, staged and committed
+-- card, table and staging of any length with room for it, and all 0: one event is begun, staged and committed
 pub a-run-commits : (n c t : ℕ) → 65536 ≤ n → n ≤ 1048576 → 136 ≤ c → c ≤ 16777216 → 1 ≤ t
     → step (run (mountedAs (lentAs (zeros n) (zeros c) oneModule) (zeros t) 0) (Begin (zeros 128) ∷ Ingress (116 ∷ []) [] ∷ [])) (Return (pos 0)) .said
     ≡ Ended (Committed 1 136)
