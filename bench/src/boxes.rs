@@ -14,7 +14,7 @@ const MANY: u32 = 1_000;
 const MANIFEST: &[u8] = b"modules\t1\ngrant\t1\tout\ta\ngrant\t1\tin\ta\n";
 
 fn buffers() -> Buffers {
-    let mut card = card(RECORDS);
+    let mut card = card(RECORDS, |_| b"a");
     card.resize(16_777_216, 0);
     Buffers::new(vec![0; 65_536], card, MANIFEST.to_vec())
 }

@@ -28,12 +28,12 @@ pub fn text(d: &mut Dice, n: usize, sizes: &[usize]) -> Vec<u8> {
     text.into_bytes()
 }
 
-/// A card of so many records of 136 bytes: a topic of one byte, no payload.
-pub fn card(records: u64) -> Vec<u8> {
-    (1..=records).flat_map(record).collect()
+/// A card of so many records of 136 bytes: each has a topic of at most 8 bytes, and no payload.
+pub fn card(records: u64, topic: fn(u64) -> &'static [u8]) -> Vec<u8> {
+    (1..=records).flat_map(|id| record(id, topic(id))).collect()
 }
 
-fn record(id: u64) -> [u8; 136] {
+fn record(id: u64, topic: &[u8]) -> [u8; 136] {
     let mut r = [0; 136];
     r[..4].copy_from_slice(&136u32.to_le_bytes());
     r[4] = 1;
@@ -41,8 +41,8 @@ fn record(id: u64) -> [u8; 136] {
     r[16..24].copy_from_slice(&(5_000 + id).to_le_bytes());
     r[32] = 1;
     r[48..73].fill(id as u8);
-    r[80] = 1;
-    r[128] = b'a';
+    r[80] = topic.len() as u8;
+    r[128..128 + topic.len()].copy_from_slice(topic);
     r
 }
 

@@ -23,10 +23,31 @@ pub fn head() {
     println!("|---|---|---|---|---|---|");
 }
 
-/// The best and the median of one side.
-fn best(mut times: Vec<Duration>) -> (f64, f64) {
-    times.sort();
-    (micros(times[0]), micros(times[times.len() / 2]))
+/// The best and the median of one side's rounds, in microseconds.
+pub struct Times {
+    pub best: f64,
+    pub median: f64,
+}
+
+fn times(mut rounds: Vec<Duration>) -> Times {
+    rounds.sort();
+    Times { best: micros(rounds[0]), median: micros(rounds[rounds.len() / 2]) }
+}
+
+/// So many calls of each side in every round, the sides in turn, each of them first as often as another. Before they are timed, all give the same answer.
+pub fn race<const N: usize>(name: &str, calls: u32, mut sides: [&mut dyn FnMut() -> u64; N]) -> [Times; N] {
+    let answers = sides.each_mut().map(|side| side());
+    assert!(answers.iter().all(|a| *a == answers[0]), "{name}: {answers:?}");
+    let mut rounds = [const { Vec::new() }; N];
+    for round in 0..WARM_UP + ROUNDS {
+        for side in (0..N).map(|k| (round + k) % N) {
+            let took = time(calls, sides[side]);
+            if WARM_UP <= round {
+                rounds[side].push(took);
+            }
+        }
+    }
+    rounds.map(times)
 }
 
 /// Short times with one place more.
@@ -38,32 +59,15 @@ fn shown(micros: f64) -> String {
     }
 }
 
-/// One row of the table. Before it is timed, both sides give the same answer.
+/// One row of the table.
 pub fn row(name: &str, ours: &mut dyn FnMut() -> u64, rusts: &mut dyn FnMut() -> u64) {
     row_of(name, 1, ours, rusts);
 }
 
 /// The same for calls that are short beside the clock: so many at a time.
 pub fn row_of(name: &str, calls: u32, ours: &mut dyn FnMut() -> u64, rusts: &mut dyn FnMut() -> u64) {
-    assert_eq!(ours(), rusts(), "{name}");
-    let (mut a, mut b) = (Vec::new(), Vec::new());
-    for round in 0..WARM_UP + ROUNDS {
-        // each side goes first in every other round
-        let (x, y);
-        if round % 2 == 0 {
-            x = time(calls, ours);
-            y = time(calls, rusts);
-        } else {
-            y = time(calls, rusts);
-            x = time(calls, ours);
-        }
-        if WARM_UP <= round {
-            a.push(x);
-            b.push(y);
-        }
-    }
-    let ((best, mid), (theirs, their_mid)) = (best(a), best(b));
-    let ratio = best / theirs;
-    let [best, theirs, mid, their_mid] = [best, theirs, mid, their_mid].map(shown);
+    let [ours, rusts] = race(name, calls, [ours, rusts]);
+    let ratio = ours.best / rusts.best;
+    let [best, theirs, mid, their_mid] = [ours.best, rusts.best, ours.median, rusts.median].map(shown);
     println!("| {name} | {best} | {theirs} | {ratio:.2} | {mid} | {their_mid} |");
 }

@@ -1,11 +1,22 @@
 //! The manifest, read in one pass.
-use super::bytes::good_topic;
+use crate::bytes::good_topic;
 
+/// A grant, by the place of its topic in the text: eight bytes, as all 64 are cleared and handed on in every call.
+#[derive(Clone, Copy, Default)]
+struct Line {
+    start: u32,
+    len: u16,
+    module: u8,
+    out: bool,
+}
+
+/// What a text says. It is filled where it lies and lent from there: handed back by value it would be copied at every call.
 pub struct Grants<'a> {
+    text: &'a [u8],
     pub modules: u64,
     /// how writes are charged: 1 or 2
     rule: u64,
-    lines: [(u64, bool, &'a [u8]); 64],
+    lines: [Line; 64],
     count: usize,
 }
 
@@ -17,29 +28,6 @@ pub fn number(s: &[u8]) -> Option<u64> {
     }
 }
 
-pub fn manifest(text: &[u8]) -> Option<Grants<'_>> {
-    if text.len() > 65_536 {
-        return None;
-    }
-    let first = text.split_inclusive(|b| *b == b'\n').next()?;
-    let modules = number(first.strip_prefix(b"modules\t")?.strip_suffix(b"\n")?)?;
-    let (rule, rest) = rule(&text[first.len()..]);
-    let mut grants = Grants { modules, rule, lines: [(0, false, &[]); 64], count: 0 };
-    for line in rest.split_inclusive(|b| *b == b'\n') {
-        let mut fields = line.strip_prefix(b"grant\t")?.strip_suffix(b"\n")?.splitn(3, |b| *b == b'\t');
-        let module = number(fields.next()?).filter(|n| *n <= modules)?;
-        let out = match fields.next()? {
-            b"in" => false,
-            b"out" => true,
-            _ => return None,
-        };
-        let topic = fields.next().filter(|t| good_topic(t))?;
-        *grants.lines.get_mut(grants.count)? = (module, out, topic);
-        grants.count += 1;
-    }
-    Some(grants)
-}
-
 /// The charge rule, and the lines behind the one that names it, if there is one. A bad one is left: it is no grant.
 fn rule(text: &[u8]) -> (u64, &[u8]) {
     match text.strip_prefix(b"charge\t") {
@@ -49,7 +37,39 @@ fn rule(text: &[u8]) -> (u64, &[u8]) {
     }
 }
 
-impl Grants<'_> {
+impl<'a> Grants<'a> {
+    pub fn none() -> Grants<'a> {
+        Grants { text: &[], modules: 0, rule: 1, lines: [Line::default(); 64], count: 0 }
+    }
+
+    /// Reads a text. What it has put down is nobody's where the text is bad.
+    pub fn read(&mut self, text: &'a [u8]) -> Option<()> {
+        if text.len() > 65_536 {
+            return None;
+        }
+        let first = text.split_inclusive(|b| *b == b'\n').next()?;
+        self.text = text;
+        self.modules = number(first.strip_prefix(b"modules\t")?.strip_suffix(b"\n")?)?;
+        let rest;
+        (self.rule, rest) = rule(&text[first.len()..]);
+        let mut end = text.len() - rest.len();
+        for line in rest.split_inclusive(|b| *b == b'\n') {
+            end += line.len();
+            let mut fields = line.strip_prefix(b"grant\t")?.strip_suffix(b"\n")?.splitn(3, |b| *b == b'\t');
+            let module = number(fields.next()?).filter(|n| *n <= self.modules)?;
+            let out = match fields.next()? {
+                b"in" => false,
+                b"out" => true,
+                _ => return None,
+            };
+            let topic = fields.next().filter(|t| good_topic(t))?;
+            let start = (end - 1 - topic.len()) as u32;
+            *self.lines.get_mut(self.count)? = Line { start, len: topic.len() as u16, module: module as u8, out };
+            self.count += 1;
+        }
+        Some(())
+    }
+
     /// What a write costs whose record has so many bytes.
     pub fn charge(&self, total: u64) -> u64 {
         match self.rule {
@@ -60,6 +80,8 @@ impl Grants<'_> {
 
     pub fn granted(&self, module: u64, out: bool, topic: &[u8]) -> bool {
         let core = out && (topic == b"filament/core/log" || topic == b"filament/core/panic");
-        core || self.lines[..self.count].iter().any(|g| g.0 == module && g.1 == out && g.2 == topic)
+        core || self.lines[..self.count].iter().any(|g| {
+            g.module as u64 == module && g.out == out && &self.text[g.start as usize..][..g.len as usize] == topic
+        })
     }
 }

@@ -2,7 +2,6 @@
 //! and 02 in the same order as far as these calls meet them. The manifest is read at every call, the last return walks all that is staged, next
 //! and look-up find each record that they look at by the index and test it whole. Only the field of a -5 is left out, as no call that is measured
 //! is refused.
-mod bytes;
 mod calls;
 mod manifest;
 mod records;

@@ -19,7 +19,7 @@ pub fn need(holds: bool, code: Code) -> Result<(), Code> {
 }
 
 pub fn zero(s: &[u8]) -> bool {
-    s.iter().all(|b| *b == 0)
+    !has(s, |b| *b != 0)
 }
 
 /// Every byte is looked at, with no stop at the first that is found: so the compiler takes many at a time.
