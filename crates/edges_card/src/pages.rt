@@ -5,7 +5,6 @@ use crate::tables::table_of;
 use card::Cursor;
 use card::Numbers;
 use card::Query;
-use card::Wanted;
 use card::Way;
 use manifest::Manifest;
 use record::EventId;
@@ -37,16 +36,17 @@ fn one(l: &[u8], card: &[u8], c: Cursor) -> Step {
     let table = table_of(le::front(card, 992), 1);
     let first = EventId(1);
     let grants = Manifest::read(text);
+    let mut room = [0usize; Manifest::PLACES];
+    let many = grants.held(cases::number(l, 3), &mut room);
+    let places = le::first(&room, many);
     let q = Query {
         way: Way::Indexed,
         first,
         numbers: c.window(first, EventId(cases::number(l, 2))),
-        grants,
-        wanted: Wanted::Granted(cases::number(l, 3)),
         cursor: c,
         cap: cases::size(l, 9),
     };
-    show::page(s, &table, text, q, cases::size(l, 10))
+    show::page(s, &table, text, places, q, cases::size(l, 10))
 }
 
 // page n next module filter from to limit desc cap out
@@ -74,18 +74,16 @@ pub(crate) fn read(l: &[u8], card: &[u8]) {
     let from = EventId(7);
     let to = EventId(9);
     if card::walk::chain_to(s, from, to) {
-        let text = field(l, 1);
-        let grants = Manifest::read(text);
+        let topic = field(l, 1);
+        let place = [0, topic.len()];
         let q = Query {
             way: Way::Walked,
             first: from,
             numbers: Numbers { from, to },
-            grants,
-            wanted: Wanted::Exactly,
             cursor: Cursor::reading(EventId(cases::number(l, 2))),
             cap: cases::size(l, 3),
         };
         let table = [0u32; 1];
-        show::page(s, &table, text, q, cases::size(l, 4));
+        show::page(s, &table, topic, &place, q, cases::size(l, 4));
     }
 }

@@ -113,7 +113,14 @@ fn sound(p: Page) -> bool
 }
 
 // The page that is asked for, at the address `out`, of the part s with its table.
-pub(crate) fn page(s: &[u8], table: &[u32], text: &[u8], q: Query, out: usize) -> Step
+pub(crate) fn page(
+    s: &[u8],
+    table: &[u32],
+    text: &[u8],
+    places: &[usize],
+    q: Query,
+    out: usize,
+) -> Step
     requires { ⌜ CanWalk q (now s) ⌝ }
 {
     let cap = q.cap;
@@ -130,10 +137,11 @@ pub(crate) fn page(s: &[u8], table: &[u32], text: &[u8], q: Query, out: usize) -
             ended: true,
         };
     }
-    let p = card::pages::measure(s, table, text, text, q);
+    let mut notes = [0usize; Page::NOTES];
+    let p = card::pages::measure(s, table, text, places, q, &mut notes);
     let mut memory = [0xEEu8; 2048];
     if sound(p) {
-        let after = card::pages::copy_page(s, table, text, text, q, &mut memory, out);
+        let after = card::pages::copy_page(s, table, text, places, q, &mut memory, out);
         let ended = found(p, &memory, out);
         stands(after);
         return Step {

@@ -3,7 +3,7 @@
 use mathlib.Core.Path.{_≡_, refl, sym, ap, ap₂, _∙_}
 use mathlib.Core.List.{List, [], _∷_, _++_}
 use Prim.Native.Nat.{ℕ, zero, suc, _+_, _-_, _*_, _/_, _%_, _^_, _≤_, _<_, suc-le-suc}
-use native.Mathlib.Nat.{pow-suc, pow-le-pow-right, lt-of-lt-of-le, zero-lt-suc, add-zero, add-suc, suc-add, add-assoc, mul-suc, mul-assoc}
+use native.Mathlib.Nat.{pow-suc, pow-le-pow-right, lt-of-lt-of-le, le-of-suc-le-suc, not-suc-le-zero, zero-lt-suc, add-zero, add-suc, suc-add, add-assoc, mul-suc, mul-assoc}
 use native.Mathlib.Numerals.{add-one}
 use native.Mathlib.Omega.{arith}
 use lib.ListN.{length, getD, take, drop, List·getD-append}
@@ -139,3 +139,19 @@ leBytes-leAt (suc w) s at h l =
     let q : (getD s at 0 + 256 * leAt w s (suc at)) / 256 ≡ leAt w s (suc at) = omega arith in
     rw (r, q) (ap (λ (t : List ℕ). getD s at 0 ∷ t) (leBytes-leAt w s (suc at) h (omega arith))
     ∙ sym (part-head s at (suc w) (suc at) w (omega arith) refl refl))
+
+-- the bytes of a number that was read, whatever stands above them: y
+read-above : (n : ℕ) (s : List ℕ) (at y v : ℕ) → v ≡ leAt (suc n) s at + y * 256 ^ suc n → v ≡ getD s at 0 + 256 * (leAt n s (suc at) + y * 256 ^ n)
+unfolding leAt
+read-above n s at y v e =
+    let p = rw (pow-suc 256 n) at e in
+    omega (arith, p, mul-assoc y (256 ^ n) 256)
+
+pub byte-read : (n w : ℕ) (s : List ℕ) (at y v k : ℕ) → Bytes s → v ≡ leAt n s at + y * 256 ^ n → k < n → n ≤ w → getD (leBytes w v) k 0 ≡ getD s (at + k) 0
+unfolding leBytes
+byte-read zero w s at y v k h e l m = absurd (not-suc-le-zero l)
+byte-read (suc n) zero s at y v k h e l m = absurd (not-suc-le-zero m)
+byte-read (suc n) (suc w) s at y v zero h e l m = rw (add-zero at) (omega (arith, read-above n s at y v e, h at))
+byte-read (suc n) (suc w) s at y v (suc k) h e l m =
+    rw (add-suc at k, ← suc-add at k)
+    (byte-read n w s (suc at) y (v / 256) k h (omega (arith, read-above n s at y v e, h at)) (le-of-suc-le-suc l) (le-of-suc-le-suc m))

@@ -5,13 +5,13 @@ use mathlib.Core.Path.{_≡_, refl, sym, ap, _∙_}
 use mathlib.Core.Bool.{Bool, true, false, _&&_}
 use mathlib.Core.List.{List, []}
 use lib.Bits.{bitAnd, and-block, and-le-l}
-use Prim.Native.Nat.{ℕ, zero, suc, _+_, _*_, _^_, _<_, suc-le-suc}
-use native.Mathlib.Nat.{add-zero, add-suc, suc-add, zero-lt-suc}
+use Prim.Native.Nat.{ℕ, zero, suc, _+_, _*_, _/_, _%_, _^_, _<_, suc-le-suc}
+use native.Mathlib.Nat.{add-zero, add-suc, suc-add, zero-lt-suc, not-suc-le-zero, le-of-suc-le-suc}
 use native.Mathlib.Omega.{arith}
 use borrow.Author.Tests.{eq-eqb, ne-eqb, eqb-true, eqb-false}
 use lib.Dec.{eqb, lit<}
 use lib.ListN.{getD}
-use Rattle.le.specs.Le.{Bytes, leAt}
+use Rattle.le.specs.Le.{Bytes, leAt, leBytes}
 use Rattle.le.proofs.TestLaws.{Tested, passes, fails, tested, and-left, and-right, and-assoc, and-pairs}
 
 -- `word w` tests numbers of w bytes and `byte` one byte: the number passes where its lowest byte does, and the number of w bytes above it. Each is held
@@ -36,14 +36,6 @@ module _ (byte : ℕ → ℕ → Bool) (s t : List ℕ) where
   nth-next : (a b j : ℕ) → nth a b (suc j) ≡ nth (suc a) (suc b) j
   nth-next a b j = rw (add-suc a j, add-suc b j, suc-add a j, suc-add b j)
 
-  each-passed : {A : Type 0} (w a b : ℕ) (left : ℕ → A) → ((j : ℕ) → j < w → nth a b j ≡ true → left j ≡ left (suc j))
-      → each byte w s a t b ≡ true → left 0 ≡ left w
-  unfolding each
-  each-passed zero a b left on e = refl
-  each-passed (suc w) a b left on e =
-      on zero (zero-lt-suc w) (nth-first a b ∙ and-left (byte (getD s a 0) (getD t b 0)) _ e)
-      ∙ each-passed w (suc a) (suc b) (λ j. left (suc j)) (λ j l q. on (suc j) (suc-le-suc l) (nth-next a b j ∙ q)) (and-right (byte (getD s a 0) (getD t b 0)) _ e)
-
   each-asked : (w a b : ℕ) (left : ℕ → Bool) → ((j : ℕ) → j < w → left j ≡ nth a b j && left (suc j)) → left 0 ≡ each byte w s a t b && left w
   unfolding each
   each-asked zero a b left on = refl
@@ -61,17 +53,23 @@ module _ (byte : ℕ → ℕ → Bool) (word : ℕ → ℕ → ℕ → Bool) (p 
       p .lowest w (getD s a 0) (getD t b 0) (leAt w s (suc a)) (leAt w t (suc b)) (omega (arith, hs a)) (omega (arith, ht b))
       ∙ rw (at-once w (suc a) (suc b))
 
-  -- What loops do with it. `left j` is what the bytes from the j-th on give.
-
-  -- where a byte that passes changes nothing, a number that passes changes nothing
-  pub passed-at-once : {A : Type 0} (w a b : ℕ) (left : ℕ → A) → ((j : ℕ) → j < w → byte (getD s (a + j) 0) (getD t (b + j) 0) ≡ true → left j ≡ left (suc j))
-      → word w (leAt w s a) (leAt w t b) ≡ true → left 0 ≡ left w
-  passed-at-once w a b left on e = each-passed byte s t w a b left on (sym (at-once w a b) ∙ e)
-
-  -- where each byte is asked to pass, the number is
+  -- What loops do with it: where each byte is asked to pass, the number is. `left j` is what the bytes from the j-th on give.
   pub asked-at-once : (w a b : ℕ) (left : ℕ → Bool) → ((j : ℕ) → j < w → left j ≡ byte (getD s (a + j) 0) (getD t (b + j) 0) && left (suc j))
       → left 0 ≡ word w (leAt w s a) (leAt w t b) && left w
   asked-at-once w a b left on = each-asked byte s t w a b left on ∙ ap (λ (x : Bool). x && left w) (sym (at-once w a b))
+
+-- of a number that passes, held against 0: what is so of each byte that passes is so of each of its bytes
+module _ (byte : ℕ → ℕ → Bool) (word : ℕ → ℕ → ℕ → Bool) (p : ByBytes byte word) (P : ℕ → Type 0) (is : (b : ℕ) → b < 256 → byte b 0 ≡ true → P b) where
+  parted : (w v : ℕ) → word (suc w) v 0 ≡ true → byte (v % 256) 0 && word w (v / 256) 0 ≡ true
+  parted w v e =
+      let x : v % 256 + 256 * (v / 256) ≡ v = omega arith in
+      sym (p .lowest w (v % 256) 0 (v / 256) 0 (omega arith) (lit< tt)) ∙ rw x e
+
+  pub passed-byte : (w v : ℕ) → word w v 0 ≡ true → (k : ℕ) → k < w → P (getD (leBytes w v) k 0)
+  unfolding leBytes
+  passed-byte zero v e k l = absurd (not-suc-le-zero l)
+  passed-byte (suc w) v e zero l = is (v % 256) (omega arith) (and-left (byte (v % 256) 0) _ (parted w v e))
+  passed-byte (suc w) v e (suc k) l = passed-byte w (v / 256) (and-right (byte (v % 256) 0) _ (parted w v e)) k (le-of-suc-le-suc l)
 
 -- where there is no second text
 pub no-bytes : Bytes []

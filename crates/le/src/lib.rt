@@ -17,6 +17,16 @@ pub fn front(s: &[u8], n: usize) -> &[u8]
     &s[..n]
 }
 
+// The first n numbers of a table.
+pub fn first(s: &[usize], n: usize) -> &[usize]
+    ensures { λ r. ⌜ now r ≡ take n (now (s .entry)) ⌝ }
+{
+    if s.len() < n {
+        return s;
+    }
+    &s[..n]
+}
+
 // The bytes from `at` on.
 pub fn tail(s: &[u8], at: usize) -> &[u8]
     ensures { λ r. ⌜ now r ≡ drop at (now (s .entry)) ⌝ }

@@ -21,6 +21,7 @@ ghost use Rattle.manifest.specs.Places.{refused, readLines, readRest, re
 pub mod charge;
 pub mod grant;
 pub mod head;
+pub mod held;
 mod reading;
 
 // What a text is read as. The first `count` grants are its own. Where it is not good it has no module and no grant, and the first charge rule.

@@ -58,6 +58,7 @@ ruleset met = (meet, meet-0, meet-1, meet-1-0, meet-1-1, meet-1-1-0, meet-1-1-1)
 
 pub record LeOnce : Type 0 where
   pub front : SeenOnce le.front.Kinds.ps le.front.Kinds.r le.front.Reads.Learnt (λ κs z s. now z)
+  pub first : SeenOnce le.first.Kinds.ps le.first.Kinds.r le.first.Reads.Learnt (λ κs z s. now z)
   pub tail : SeenOnce le.tail.Kinds.ps le.tail.Kinds.r le.tail.Reads.Learnt (λ κs z s. now z)
   pub cut : SeenOnce le.cut.Kinds.ps le.cut.Kinds.r le.cut.Reads.Learnt (λ κs z s. now z)
   pub read-u32 : ResultOnce le.read_u32.Kinds.ps le.read_u32.Kinds.r le.read_u32.Reads.Learnt
@@ -122,6 +123,9 @@ value-once = search met
 pub record ManifestOnce : Type 0 where
   pub manifest-read : ResultOnce manifest.Manifest.read.Kinds.ps manifest.Manifest.read.Kinds.r manifest.Manifest.read.Reads.Learnt
   pub manifest-granted : ResultOnce manifest.Manifest.granted.Kinds.ps manifest.Manifest.granted.Kinds.r manifest.Manifest.granted.Reads.Learnt
+  pub manifest-held : ResultOnce manifest.Manifest.held.Kinds.ps manifest.Manifest.held.Kinds.r manifest.Manifest.held.Reads.Learnt
+  pub manifest-held-places : SeenOnce manifest.Manifest.held.Kinds.ps manifest.Manifest.held.Kinds.r manifest.Manifest.held.Reads.Learnt (λ κs z s. now (s .1 .1 .0))
+  pub held-stands-at : ResultOnce manifest.held.stands_at.Kinds.ps manifest.held.stands_at.Kinds.r manifest.held.stands_at.Reads.Learnt
 
 pub manifest-once : ManifestOnce
 manifest-once = search met
@@ -141,7 +145,6 @@ record-once = search met
 -- ---- the card
 
 pub record CardOnce : Type 0 where
-  pub grants-wanted-topic : ResultOnce card.grants.wanted_topic.Kinds.ps card.grants.wanted_topic.Kinds.r card.grants.wanted_topic.Reads.Learnt
   pub cursor-reading : ResultOnce card.Cursor.reading.Kinds.ps card.Cursor.reading.Kinds.r card.Cursor.reading.Reads.Learnt
   pub cursor-past : ResultOnce card.Cursor.past.Kinds.ps card.Cursor.past.Kinds.r card.Cursor.past.Reads.Learnt
   pub cursor-window : ResultOnce card.Cursor.window.Kinds.ps card.Cursor.window.Kinds.r card.Cursor.window.Reads.Learnt
@@ -150,8 +153,11 @@ pub record CardOnce : Type 0 where
   pub spots-spot-by : ResultOnce card.spots.spot_by.Kinds.ps card.spots.spot_by.Kinds.r card.spots.spot_by.Reads.Learnt
   pub listing-lists : ResultOnce card.listing.lists.Kinds.ps card.listing.lists.Kinds.r card.listing.lists.Reads.Learnt
   pub pages-measure : ResultOnce card.pages.measure.Kinds.ps card.pages.measure.Kinds.r card.pages.measure.Reads.Learnt
+  pub pages-measure-notes : SeenOnce card.pages.measure.Kinds.ps card.pages.measure.Kinds.r card.pages.measure.Reads.Learnt (λ κs z s. now (s .1 .1 .1 .1 .1 .0))
   pub pages-copy-page : ResultOnce card.pages.copy_page.Kinds.ps card.pages.copy_page.Kinds.r card.pages.copy_page.Reads.Learnt
   pub pages-copy-page-memory : SeenOnce card.pages.copy_page.Kinds.ps card.pages.copy_page.Kinds.r card.pages.copy_page.Reads.Learnt (λ κs z s. now (s .1 .1 .1 .1 .1 .0))
+  pub notes-copy-noted : ResultOnce card.notes.copy_noted.Kinds.ps card.notes.copy_noted.Kinds.r card.notes.copy_noted.Reads.Learnt
+  pub notes-copy-noted-memory : SeenOnce card.notes.copy_noted.Kinds.ps card.notes.copy_noted.Kinds.r card.notes.copy_noted.Reads.Learnt (λ κs z s. now (s .1 .1 .1 .1 .1 .1 .1 .0))
   pub walk-head-len : ResultOnce card.walk.head_len.Kinds.ps card.walk.head_len.Kinds.r card.walk.head_len.Reads.Learnt
   pub walk-check-chain : ResultOnce card.walk.check_chain.Kinds.ps card.walk.check_chain.Kinds.r card.walk.check_chain.Reads.Learnt
   pub walk-chain-to : ResultOnce card.walk.chain_to.Kinds.ps card.walk.chain_to.Kinds.r card.walk.chain_to.Reads.Learnt
@@ -229,8 +235,9 @@ pub record TakesOnce : Type 0 where
   pub page-page-check : ResultOnce takes.page.page_check.Kinds.ps takes.page.page_check.Kinds.r takes.page.page_check.Reads.Learnt
   pub page-page-bytes : ResultOnce takes.page.page_bytes.Kinds.ps takes.page.page_bytes.Kinds.r takes.page.page_bytes.Reads.Learnt
   pub page-find-page : ResultOnce takes.page.find_page.Kinds.ps takes.page.find_page.Kinds.r takes.page.find_page.Reads.Learnt
+  pub page-find-page-notes : SeenOnce takes.page.find_page.Kinds.ps takes.page.find_page.Kinds.r takes.page.find_page.Reads.Learnt (λ κs z s. now (s .1 .1 .1 .1 .1 .1 .0))
   pub page-hand-over : ResultOnce takes.page.hand_over.Kinds.ps takes.page.hand_over.Kinds.r takes.page.hand_over.Reads.Learnt
-  pub page-hand-over-memory : SeenOnce takes.page.hand_over.Kinds.ps takes.page.hand_over.Kinds.r takes.page.hand_over.Reads.Learnt (λ κs z s. now (s .1 .1 .1 .1 .1 .1 .0))
+  pub page-hand-over-memory : SeenOnce takes.page.hand_over.Kinds.ps takes.page.hand_over.Kinds.r takes.page.hand_over.Reads.Learnt (λ κs z s. now (s .1 .1 .1 .1 .1 .1 .1 .1 .0))
   pub page-kept-topic : ResultOnce takes.page.kept_topic.Kinds.ps takes.page.kept_topic.Kinds.r takes.page.kept_topic.Reads.Learnt
   pub stage-fault-code : ResultOnce takes.stage.fault_code.Kinds.ps takes.stage.fault_code.Kinds.r takes.stage.fault_code.Reads.Learnt
   pub stage-payload-checked : ResultOnce takes.stage.payload_checked.Kinds.ps takes.stage.payload_checked.Kinds.r takes.stage.payload_checked.Reads.Learnt

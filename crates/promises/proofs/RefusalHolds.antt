@@ -1,22 +1,18 @@
 -- Promise 1: what a mark does, and the bytes that read and next change. (That a refusal changes nothing else is `refused` of MovesHold.)
 -- Assumes nothing.
-use mathlib.Core.Path.{_≡_, refl, sym, _∙_}
-use mathlib.Core.Bool.{Bool, true, false, cond, true≢false}
+use mathlib.Core.Path.{_≡_, refl, _∙_}
+use mathlib.Core.Bool.{Bool, true, false, cond}
 use mathlib.Core.List.{List, [], _∷_}
 use Prim.Native.Nat.{ℕ, _+_}
-use native.Mathlib.Nat.{zero-add}
 use native.Mathlib.Omega.{arith}
-use borrow.Author.Tests.{eqb-true}
-use lib.Dec.{leb, eqb}
+use lib.Dec.{leb}
 use lib.ListN.{length}
 use Rattle.le.specs.Splice.{splice}
 use Rattle.le.proofs.SpliceLaws.{length-splice, take-splice-before, drop-splice-after}
 use Rattle.record.specs.Shown.{shownFrom}
 use Rattle.card.specs.Records.{size}
 use Rattle.card.specs.Listing.{fit, pageOf}
-use Rattle.card.specs.Look.{Stop, AtEnd, Full, AtFault, endOf, shortOf, pageAt, pageAfter, isFault}
-use Rattle.card.specs.declared.Page.{Page}
-use Rattle.card.specs.declared.Page.the-variants.{End, Short, Bytes}
+use Rattle.card.specs.declared.Page.the-variants.{Short, Bytes}
 use Rattle.card.proofs.PageLaws.{length-shownFrom}
 use Rattle.weave.specs.declared.Code.{Code}
 use Rattle.weave.specs.declared.Spoiled.the-variants.{Overspent}
@@ -26,6 +22,7 @@ use Rattle.weave.specs.States.{spoilt}
 use Rattle.weave.specs.Args.{nextArgs, readArgs}
 use Rattle.weave.proofs.CodeLaws.{found-left}
 use Rattle.takes.specs.Pages.{pageBytes}
+use Rattle.takes.proofs.NotedLaws.{page-size}
 use Rattle.host.specs.declared.Host.{Host}
 use Rattle.host.specs.Hosts.{Lent, withWeave, settle}
 use Rattle.reads.specs.Reading.{readSound, readPage, readCheck, readAnswer, readMemory}
@@ -62,26 +59,12 @@ page-long at cap (r ∷ t) = length-shownFrom at (fit cap (r ∷ t)) ∙ go (leb
     go false e = rw e
 
 -- .. and so of a look whose records are sound
-stop-bytes : (e : Stop) (n : ℕ) → isFault e ≡ false → pageBytes (pageAt e n) ≡ n
-unfolding endOf shortOf
-stop-bytes AtEnd n f = some (eqb n 0) End refl refl
-  where
-    some : (b : Bool) (p : Page) → pageBytes p ≡ 0 → eqb n 0 ≡ b → pageBytes (cond b p (Bytes n)) ≡ n
-    some true p z e = z ∙ sym (eqb-true n 0 e)
-    some false p z e = refl
-stop-bytes Full n f = some (eqb n 0) Short refl refl
-  where
-    some : (b : Bool) (p : Page) → pageBytes p ≡ 0 → eqb n 0 ≡ b → pageBytes (cond b p (Bytes n)) ≡ n
-    some true p z e = z ∙ sym (eqb-true n 0 e)
-    some false p z e = refl
-stop-bytes AtFault n f = absurd (true≢false f)
-
 module _ (l : Lent) (table : List ℕ) (h : Host) (m : List ℕ) (a : ℕ) where
   pub look-bytes : isClear (nextCheck l table h m a) ≡ true → pageBytes (nextPage l table h m a) ≡ size (nextPart l table h m a)
-  unfolding pageFound pageAfter
+  unfolding pageFound
   look-bytes f =
       let k = nextLook l table h m a in
-      rw (check-before h (nextFound l table h m a) k f) (stop-bytes (k .stop) (0 + size (k .part)) (check-sound h (nextFound l table h m a) k f) ∙ zero-add (size (k .part)))
+      rw (check-before h (nextFound l table h m a) k f) (page-size k (check-sound h (nextFound l table h m a) k f))
 
   -- next, not refused: the bytes that it answers, from out_ptr on
   pub next-there : isClear (nextCheck l table h m a) ≡ true → OnlyThere m (nextMemory l table h m a) (nextArgs m a .out .ptr) (nextAnswer l table h m a .value)

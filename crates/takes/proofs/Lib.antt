@@ -1,3 +1,4 @@
 pub mod BufferLaws
 pub mod KeptLaws
 pub mod PayloadLaws
+pub mod NotedLaws

@@ -1,6 +1,6 @@
 -- The laws of `prefixOf` and `sameBytes`: for a loop over the bytes, whose `all` is what the whole input gives, and for callers.
 -- Assumes nothing.
-use mathlib.Core.Path.{_≡_, refl, sym, ap, ap₂}
+use mathlib.Core.Path.{_≡_, refl, sym, ap, ap₂, _∙_}
 use mathlib.Core.Bool.{Bool, true, false, _&&_}
 use mathlib.Core.List.{List, [], _∷_}
 use Prim.Native.Nat.{ℕ, suc, _+_, _≤_, _<_}
@@ -31,19 +31,19 @@ module _ (f t : List ℕ) (i : ℕ) (all : Bool) where
   unfolding prefixOf
   prefix-end h inv = rw (drop-of-length-le f h) at inv
 
--- eight bytes of both at once
-module _ (f t : List ℕ) (i : ℕ) (all : Bool) (hf : Bytes f) (ht : Bytes t) (h : i + 8 ≤ length f) (k : i + 8 ≤ length t) where
-  eight : prefixOf (drop i f) (drop i t) ≡ eqb (leAt 8 f i) (leAt 8 t i) && prefixOf (drop (i + 8) f) (drop (i + 8) t)
+-- w bytes of both at once
+module _ (w : ℕ) (f t : List ℕ) (i : ℕ) (all : Bool) (hf : Bytes f) (ht : Bytes t) (h : i + w ≤ length f) (k : i + w ≤ length t) where
+  at-once : prefixOf (drop i f) (drop i t) ≡ eqb (leAt w f i) (leAt w t i) && prefixOf (drop (i + w) f) (drop (i + w) t)
   unfolding prefixOf
-  eight =
-      rw (add-zero i) at (asked-at-once eqb same-word same-by-bytes f t hf ht 8 i i (λ j. prefixOf (drop (i + j) f) (drop (i + j) t))
+  at-once =
+      rw (add-zero i) at (asked-at-once eqb same-word same-by-bytes f t hf ht w i i (λ j. prefixOf (drop (i + j) f) (drop (i + j) t))
       (λ j l. rw (drop-head f (i + j) (i + suc j) (omega arith) (omega arith), drop-head t (i + j) (i + suc j) (omega arith) (omega arith))))
 
-  pub prefix-eight : leAt 8 f i ≡ leAt 8 t i → prefixOf (drop i f) (drop i t) ≡ all → prefixOf (drop (i + 8) f) (drop (i + 8) t) ≡ all
-  prefix-eight e inv = rw (eight, eq-eqb (leAt 8 f i) (leAt 8 t i) e) at inv
+  pub prefix-same : leAt w f i ≡ leAt w t i → prefixOf (drop i f) (drop i t) ≡ all → prefixOf (drop (i + w) f) (drop (i + w) t) ≡ all
+  prefix-same e inv = rw (at-once, eq-eqb (leAt w f i) (leAt w t i) e) at inv
 
-  pub prefix-not-eight : (leAt 8 f i ≡ leAt 8 t i → ⊥) → prefixOf (drop i f) (drop i t) ≡ all → false ≡ all
-  prefix-not-eight e inv = rw (eight, ne-eqb (leAt 8 f i) (leAt 8 t i) e) at inv
+  pub prefix-differs : (leAt w f i ≡ leAt w t i → ⊥) → prefixOf (drop i f) (drop i t) ≡ all → false ≡ all
+  prefix-differs e inv = rw (at-once, ne-eqb (leAt w f i) (leAt w t i) e) at inv
 
 pub prefix-short : (f t : List ℕ) → length t < length f → prefixOf f t ≡ false
 unfolding prefixOf
@@ -87,3 +87,12 @@ prefix-true [] t e = refl
 prefix-true (x ∷ f) [] e = let z : _≡_ {A = ℕ} 0 1 = cc in absurd (omega arith)
 prefix-true (x ∷ f) (y ∷ t) e =
     ap₂ (λ (k : ℕ) (r : List ℕ). k ∷ r) (sym (eqb-true x y (and-left (eqb x y) (prefixOf f t) e))) (prefix-true f t (and-right (eqb x y) (prefixOf f t) e))
+
+pub same-sym : (a b : List ℕ) → sameBytes a b ≡ sameBytes b a
+same-sym a b = go (sameBytes a b) refl (sameBytes b a) refl
+  where
+    go : (x : Bool) → sameBytes a b ≡ x → (y : Bool) → sameBytes b a ≡ y → x ≡ y
+    go true e true f = refl
+    go true e false f = sym (same-refl b) ∙ ap (sameBytes b) (sym (same-true a b e)) ∙ f
+    go false e true f = sym e ∙ ap (sameBytes a) (same-true b a f) ∙ same-refl a
+    go false e false f = refl

@@ -1,4 +1,4 @@
-// Bytes compared, eight at a time; the last few, fewer than eight, byte by byte.
+// Bytes compared, eight at a time; behind the eights four at once, where four are left; the last few, fewer than four, byte by byte.
 ghost use mathlib.Core.Path.{_≡_};
 ghost use Prim.Native.Nat.{_≤_};
 ghost use lib.ListN.{length, drop};
@@ -33,6 +33,12 @@ pub fn starts_with(topic: &[u8], filter: &[u8]) -> bool
             return false;
         }
         i += 8;
+    }
+    if 4 <= filter.len() - i {
+        if le::read_u32(filter, i) != le::read_u32(topic, i) {
+            return false;
+        }
+        i += 4;
     }
     same_from(topic, filter, i)
 }

@@ -8,7 +8,11 @@ use Rattle.edges_card.proofs.pages.read.Tie as tie
 
 page-requires : tie.Need-page-requires
 unfolding reading
-page-requires c κs = λ _. record { chained = sym (c .before .before .before .before .before .before .before .before .chain-to .ensures) ∙ c .before .before .before .before .before .before .before .if1 .taken; from-first = refl; upward = ap (λ (d : Cursor). d .desc) (c .before .before .before .reading .ensures) }
+page-requires c κs =
+    let c₁ = c .before .before .before .before in
+    let c₂ = c₁ .before .before .before in
+    let c₃ = c₂ .before in
+    λ _. record { chained = sym (c₃ .chain-to .ensures) ∙ c₂ .if1 .taken; from-first = refl; upward = ap (λ (d : Cursor). d .desc) (c₁ .reading .ensures) }
 
 pub read-spec : {M : Type 1} → statement M
 read-spec =
@@ -20,7 +24,7 @@ read-spec =
     (λ c κs. search needs)
     (λ c κs. search needs)
     (λ c κs. search needs)
-    (λ c κs. search needs)
+    (λ c. search needs)
     (λ c. search needs)
     (λ c κs. search needs)
     page-requires

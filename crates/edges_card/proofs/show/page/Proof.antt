@@ -7,12 +7,18 @@ use Rattle.edges_card.proofs.show.page.Statement.{statement}
 use Rattle.edges_card.proofs.show.page.Tie as tie
 
 copy-page-requires : tie.Need-copy-page-requires
-copy-page-requires c κs = (c .before .before .before .before .before .before .before .before .before .before .pre, (no-fault _ (λ e. c .before .before .sound .ensures (c .before .if3 .taken) (c .before .before .before .measure .ensures ∙ e)), omega arith))
+copy-page-requires c κs =
+    let c₁ = c .before in
+    let c₂ = c₁ .before in
+    let c₃ = c₂ .before .before in
+    let c₄ = c₃ .before .before .before .before .before .before .before .before .before in
+    (c₄ .pre, (no-fault _ (λ e. c₂ .sound .ensures (c₁ .if3 .taken) (c₃ .measure .ensures .0 ∙ e)), omega arith))
 
 pub page-spec : {M : Type 1} → statement M
 page-spec =
     tie.close
     (tie.spec
+    (λ c. search needs)
     (λ c. search needs)
     (λ c. search needs)
     (λ c κs. search needs)
