@@ -13,7 +13,7 @@ use text::limits::Limits;
 
 // Room for one open cursor: its handle, 0 where it is free, and what the cursor still has to list.
 #[repr(C)]
-#[derive(Drop)]
+#[derive(Clone, Copy)]
 pub struct Room {
     pub handle: u64,
     pub from: u64,
@@ -26,7 +26,7 @@ pub struct Room {
 
 // The host's state. A flag is 0 or 1, a spoiled weave's reason its code. There is no padding.
 #[repr(C)]
-#[derive(Drop)]
+#[derive(Clone, Copy)]
 pub struct State {
     pub staginglen: u64,
     pub cardlen: u64,

@@ -13,14 +13,14 @@ use cell::Cell;
 use scalar::Scalar;
 
 // A run of bytes in a memory.
-#[derive(Drop)]
+#[derive(Clone, Copy)]
 pub struct Span {
     pub ptr: u64,
     pub len: u64,
 }
 
 // What 32 bytes say: a scalar, a string, a byte array, or nothing that may be stored.
-#[derive(Drop)]
+#[derive(Clone, Copy)]
 pub enum Value {
     Plain(Scalar),
     Text(Span),
@@ -34,7 +34,7 @@ impl Value {
 }
 
 // What a check finds: nothing, a span outside memory (-5), or a type or content that may not be (-7).
-#[derive(Drop)]
+#[derive(Clone, Copy)]
 pub enum Fault {
     Fine,
     Outside,
@@ -42,7 +42,7 @@ pub enum Fault {
 }
 
 // What a check finds of a value, and the length of its payload, 0 where there is a fault.
-#[derive(Drop)]
+#[derive(Clone, Copy)]
 pub struct Checked {
     pub fault: Fault,
     pub len: u64,
