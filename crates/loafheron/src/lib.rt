@@ -1,5 +1,6 @@
 // The C library: the host's state as plain numbers, and every operation under a C name, thin over the proved host.
 // include/loafheron.h says to a C program what stands here.
+#![tactic(auto)]
 mod answers;
 mod calls;
 mod crossing;
@@ -13,7 +14,7 @@ use text::limits::Limits;
 
 // Room for one open cursor: its handle, 0 where it is free, and what the cursor still has to list.
 #[repr(C)]
-#[derive(Drop)]
+#[derive(Clone, Copy)]
 pub struct Room {
     pub handle: u64,
     pub from: u64,

@@ -3,7 +3,7 @@ ghost use Rattle.std.specs.Prelude.{◌≡◌};
 ghost use Rattle.manifest.specs.Charge.{charge_named};
 
 // Its two editions. Both stay in use: the manifest names one.
-#[derive(Drop)]
+#[derive(Clone, Copy)]
 pub enum Charge {
     First,
     Second,

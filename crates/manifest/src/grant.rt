@@ -11,7 +11,7 @@ use text::lines::{behind, field};
 
 // Module `holder` may write (`out`), or read and list (not `out`), the topic of `len` bytes that stands at `start` of the text. Eight bytes with no gap
 // between them: all 64 are cleared and handed on in every call, and a gap takes that apart into hundreds of stores.
-#[derive(Drop)]
+#[derive(Clone, Copy)]
 pub struct Grant {
     pub start: u32,
     pub len: u16,

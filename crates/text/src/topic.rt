@@ -8,7 +8,7 @@ ghost use Rattle.text.specs.Topic.{may_stand, no_control, good_text, good_topic,
 use crate::limits::Limits;
 
 // Which bytes may stand: in a topic or filter of a call or a grant; in a record's topic, on the card or staged. Cards outlive the rule for calls.
-#[derive(Drop)]
+#[derive(Clone, Copy)]
 pub enum Rule {
     Called,
     Kept,

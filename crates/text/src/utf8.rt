@@ -4,7 +4,7 @@ ghost use Rattle.le.specs.Splice.{part};
 ghost use Rattle.text.specs.Utf8.{after, utf8_from, utf8, due, due_of};
 
 // What a character wants behind its first byte: `left` bytes, the first from lo to hi, the others from 0x80 to 0xBF.
-#[derive(Drop)]
+#[derive(Clone, Copy)]
 pub struct Due {
     pub left: usize,
     pub lo: u8,

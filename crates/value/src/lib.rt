@@ -1,5 +1,6 @@
 // A Filament value: what its 32 bytes say, its check, its stored form, and its pointer when it is handed out.
 // The crates above know four things of it: the payload that is stored, the fault for which there is none, the test of a stored payload, and the payload as shown.
+#![tactic(auto)]
 pub mod cell;
 pub mod check;
 pub mod decode;
@@ -13,14 +14,14 @@ use cell::Cell;
 use scalar::Scalar;
 
 // A run of bytes in a memory.
-#[derive(Drop)]
+#[derive(Clone, Copy)]
 pub struct Span {
     pub ptr: u64,
     pub len: u64,
 }
 
 // What 32 bytes say: a scalar, a string, a byte array, or nothing that may be stored.
-#[derive(Drop)]
+#[derive(Clone, Copy)]
 pub enum Value {
     Plain(Scalar),
     Text(Span),
@@ -34,7 +35,7 @@ impl Value {
 }
 
 // What a check finds: nothing, a span outside memory (-5), or a type or content that may not be (-7).
-#[derive(Drop)]
+#[derive(Clone, Copy)]
 pub enum Fault {
     Fine,
     Outside,

@@ -1,4 +1,5 @@
 // One weave: its state by value, each kind of change to it, the arguments of a call, and each check that speaks of these.
+#![tactic(auto)]
 pub mod args;
 pub mod charges;
 pub mod checks;
@@ -13,7 +14,7 @@ use card::Cursor;
 use record::{Header, VirtualTime};
 
 // 01's codes; Fine where a check finds nothing wrong.
-#[derive(Drop)]
+#[derive(Clone, Copy)]
 pub enum Code {
     Fine,
     Denied,
@@ -26,14 +27,14 @@ pub enum Code {
 }
 
 // What a check of a module call finds: a code and, with -5, the field of its argument record that failed, by its offset. 0 with any other code.
-#[derive(Drop)]
+#[derive(Clone, Copy)]
 pub struct Finding {
     pub code: Code,
     pub field: u64,
 }
 
 // Why every further module call of the weave is refused.
-#[derive(Drop)]
+#[derive(Clone, Copy)]
 pub enum Spoiled {
     Not,
     Overspent,
@@ -41,18 +42,18 @@ pub enum Spoiled {
 }
 
 // (A struct of its own, so that it can be stored in a weave.)
-#[derive(Drop)]
+#[derive(Clone, Copy)]
 pub struct Mark(pub Spoiled);
 
 // Room for one open cursor: its handle, 0 where it is free.
-#[derive(Drop)]
+#[derive(Clone, Copy)]
 pub struct Slot {
     pub handle: u64,
     pub cursor: Cursor,
 }
 
 // The lengths of the buffers that every operation is lent.
-#[derive(Drop)]
+#[derive(Clone, Copy)]
 pub struct Lengths {
     pub staging: usize,
     pub card: usize,
