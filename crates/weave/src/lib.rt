@@ -61,7 +61,7 @@ pub struct Lengths {
 }
 
 // What a weave has. Outside a weave all of it is 0.
-#[derive(Drop)]
+#[derive(Clone, Copy)]
 pub struct Weave {
     pub running: bool,
     pub spoiled: Mark,
