@@ -12,7 +12,7 @@ use record::EventId;
 use weave::{Code, Lengths, Weave};
 
 // What the box knows between two calls.
-#[derive(Drop)]
+#[derive(Clone, Copy)]
 pub struct Host {
     pub lengths: Lengths,
     pub index: usize, // how many entries the table has that lies beside the card
@@ -23,7 +23,7 @@ pub struct Host {
 }
 
 // What the first checks of an operation find, and the manifest as it was read for them.
-#[derive(Drop)]
+#[derive(Clone, Copy)]
 pub struct Entry {
     pub check: Code,
     pub grants: Manifest,
@@ -39,7 +39,7 @@ pub struct Answer {
 }
 
 // What a module's return leads to.
-#[derive(Drop)]
+#[derive(Clone, Copy)]
 pub enum Fate {
     Refused(Code),
     Discarded(Code),
@@ -54,7 +54,7 @@ pub struct Returned {
 }
 
 // What mount answers: Fine, or the code it was refused with, -3 with the offset of the first record not sound.
-#[derive(Drop)]
+#[derive(Clone, Copy)]
 pub struct Mounted {
     pub code: Code,
     pub at: usize,

@@ -7,7 +7,7 @@ use crate::charge::Charge;
 use text::lines::line;
 
 // What it says.
-#[derive(Drop)]
+#[derive(Clone, Copy)]
 pub struct Head {
     pub modules: u64,
     pub charge: Charge,

@@ -22,7 +22,7 @@ pub mod held;
 mod reading;
 
 // What a text is read as. The first `count` grants are its own. Where it is not good it has no module and no grant, and the first charge rule.
-#[derive(Drop)]
+#[derive(Clone, Copy)]
 pub struct Manifest {
     pub good: bool,
     pub head: Head,

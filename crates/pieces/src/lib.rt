@@ -7,7 +7,7 @@ pub mod standing;
 use session::Session;
 
 // A session, beside a buffer that holds the line under way.
-#[derive(Drop)]
+#[derive(Clone, Copy)]
 pub struct Play {
     pub session: Session,
     pub many: bool, // sessions follow one another, each under its name

@@ -12,7 +12,7 @@ use host::Host;
 pub type Index = [u32; 481];
 
 // How far a session has come.
-#[derive(Drop)]
+#[derive(Clone, Copy)]
 pub enum Phase {
     Listing, // its manifest is being read
     Overfull, // the same, and the manifest is too long already
@@ -20,7 +20,7 @@ pub enum Phase {
     Over,
 }
 
-#[derive(Drop)]
+#[derive(Clone, Copy)]
 pub struct Session {
     pub phase: Phase,
     pub lines: u64, // read so far

@@ -43,7 +43,7 @@ pub enum Fault {
 }
 
 // What a check finds of a value, and the length of its payload, 0 where there is a fault.
-#[derive(Drop)]
+#[derive(Clone, Copy)]
 pub struct Checked {
     pub fault: Fault,
     pub len: u64,

@@ -6,7 +6,7 @@ use record::EventId;
 use text::limits::Limits;
 use value::{Span, Value};
 
-#[derive(Drop)]
+#[derive(Clone, Copy)]
 pub struct WriteArgs {
     pub topic: Span,
     pub place: u64,
@@ -30,7 +30,7 @@ pub struct OpenArgs {
     pub desc: u8,
 }
 
-#[derive(Drop)]
+#[derive(Clone, Copy)]
 pub struct NextArgs {
     pub handle: u64,
     pub out: Span,
