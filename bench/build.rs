@@ -1,4 +1,4 @@
-// Links target/staticlib/libgauge.a, which `rt staticlib gauge` writes for x86-64 alone.
+// Links target/staticlib/libgauge.a, which `tests/archive gauge` writes for x86-64 alone.
 use std::{env, path::Path};
 
 fn main() {
@@ -7,7 +7,7 @@ fn main() {
     let here = env::var("CARGO_MANIFEST_DIR").unwrap();
     let dir = Path::new(&here).join("../target/staticlib");
     let archive = dir.join("libgauge.a");
-    assert!(archive.is_file(), "no target/staticlib/libgauge.a: `rt staticlib gauge` first, or bench/run");
+    assert!(archive.is_file(), "no target/staticlib/libgauge.a: `tests/archive gauge` first, or bench/run");
     println!("cargo:rustc-link-search=native={}", dir.display());
     println!("cargo:rustc-link-lib=static=gauge");
     println!("cargo:rerun-if-changed={}", archive.display());

@@ -1,6 +1,6 @@
 /* Loafheron: the proved host of a looper box, for C.
  *
- * Link target/staticlib/libloafheron.a, which `rt staticlib loafheron` makes, for x86-64 Linux and no other machine. Of every
+ * Link target/staticlib/libloafheron.a, which `tests/archive` makes, for x86-64 Linux and no other machine. Of every
  * function's source it is proved that it answers just what its definition says, for every state and every byte that it is lent.
  * That the definitions say what the requirements (document 01, as 02 changes it) say is read, and what the compiler makes of the
  * source is tested: docs/TRUST.md.

@@ -1,4 +1,4 @@
-// Where the program is for x86-64, target/staticlib/libloafheron.a is linked (`rt staticlib loafheron` writes it, for x86-64 alone). Elsewhere
+// Where the program is for x86-64, target/staticlib/libloafheron.a is linked (`tests/archive` writes it, for x86-64 alone). Elsewhere
 // the archive runs in a program of its own (src/lent/piped.rs).
 use std::{env, path::Path};
 
@@ -11,7 +11,7 @@ fn main() {
     let here = env::var("CARGO_MANIFEST_DIR").unwrap();
     let dir = Path::new(&here).join("../target/staticlib");
     let archive = dir.join("libloafheron.a");
-    assert!(archive.is_file(), "no target/staticlib/libloafheron.a: `rt staticlib loafheron` first, or tests/run");
+    assert!(archive.is_file(), "no target/staticlib/libloafheron.a: `tests/archive` first, or tests/run");
     println!("cargo:rustc-cfg=linked");
     println!("cargo:rustc-link-search=native={}", dir.display());
     println!("cargo:rustc-link-lib=static=loafheron");

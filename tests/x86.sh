@@ -1,7 +1,8 @@
 # To be sourced, at the repository's root: C for x86-64 on either kind of machine, as the archive is for x86-64 alone.
 #   want COMMAND:PACKAGE ..   what is missing is installed from Debian's packages
-#   want_cc                   the same for a C compiler for x86-64, which is then $x86_cc
-#   $x86_run PROGRAM          runs a statically linked program: as it is, or by the emulator of Rattle's kit
+#   want_cc                   the same for a C compiler for x86-64, which is then $x86_cc, and for an emulator where one is needed
+#   $x86_run PROGRAM          runs a statically linked program: as it is, or by Debian's emulator (Rattle's kit has none, and runs on x86-64 alone: an archive
+#                             that was built there has to be brought along)
 # shellcheck shell=sh disable=SC2034
 if [ "$(uname -m)" = x86_64 ]; then
     x86_cc=cc
@@ -10,11 +11,7 @@ if [ "$(uname -m)" = x86_64 ]; then
 else
     x86_cc=x86_64-linux-gnu-gcc
     x86_packages="gcc-x86-64-linux-gnu libc6-dev-amd64-cross"
-    if ! command -v rt >/dev/null; then
-        echo "$0: NOT RUN: no Rattle toolchain (rt), and with it no emulator for x86-64" >&2
-        exit 2
-    fi
-    x86_run=$(dirname "$(dirname "$(rt doc)")")/on/$(uname -m)/toolchain/bin/qemu-x86_64
+    x86_run=qemu-x86_64
 fi
 
 install_packages() {
@@ -36,4 +33,5 @@ want() {
 want_cc() {
     # shellcheck disable=SC2086
     echo '#include <stdio.h>' | "$x86_cc" -E - >/dev/null 2>&1 || install_packages $x86_packages
+    [ -z "$x86_run" ] || want "$x86_run:qemu-user"
 }

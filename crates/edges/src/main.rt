@@ -1,5 +1,6 @@
 // The cases at the edges of `le` and `text` that are run and compared: outside vectors, and those of documents 01 and 02. Each line of the input is a case: it is
 // written again, a blank for each tab, with what it gives. Bytes stand in base 16.
+#![tactic(auto)]
 mod numbers;
 mod texts;
 

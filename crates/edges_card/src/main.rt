@@ -1,5 +1,6 @@
 // The card at its edges: six records on a card, and two staged behind them. Each line of the input is a case; it is written again, with what it gives. The
 // lines before them put the records there, and say nothing: of 152, 152, 136, 176, 168 and 208 bytes, 992 in all, and of 152 and 144.
+#![tactic(auto)]
 mod build;
 mod chains;
 mod look;

@@ -9,6 +9,7 @@
 // in, out module topic      what it grants
 // label text                the text alone, for the next question
 // hand in, out module topic what a manifest grants that no text was read to
+#![tactic(auto)]
 mod making;
 mod show;
 

@@ -7,6 +7,7 @@
 // shown sample flags address with these flags, shown at this address
 // named agent topic          a record of an agent, with a topic
 // long n                     a topic of n bytes
+#![tactic(auto)]
 mod named;
 mod questions;
 mod samples;

@@ -1,4 +1,6 @@
 // Numbers in bytes, and runs of bytes in lent buffers: what every other crate reads and writes with.
+#![tactic(auto)]
+
 ghost use Rattle.std.specs.Prelude.{◌≡◌, ◌+◌, ◌-◌, ◌≤◌, length, take, drop};
 ghost use Rattle.le.specs.Le.{le_at, le_bytes};
 ghost use Rattle.le.specs.Splice.{splice, zeros, part, all_zero};

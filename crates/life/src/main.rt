@@ -1,5 +1,6 @@
 // Whole lives of a box, call by call. Each line of the input is a step: it is written again, with what the host answers and all that changed.
 // `stdout` was made from documents 01 and 02 by other means than this program.
+#![tactic(auto)]
 mod calls;
 mod hand;
 mod lay;

@@ -1,4 +1,5 @@
 // Standard input, piece by piece: each line of it is answered as soon as it is whole. The one loop of the programs `rehearse` and `sessions`.
+#![tactic(auto)]
 pub mod closing;
 pub mod feeding;
 pub mod standing;

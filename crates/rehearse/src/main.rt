@@ -1,4 +1,5 @@
 // The rehearsal: standard input to standard output.
+#![tactic(auto)]
 use pieces::standing::all;
 
 fn main() {

@@ -1,4 +1,5 @@
 // What a line of a program's answers is made of.
+#![tactic(auto)]
 use libc::STDOUT_FILENO;
 
 pub fn word(s: &[u8]) {

@@ -31,6 +31,7 @@ module _ (rule : Rule) (s : List ℕ) (i : ℕ) (all : Bool) where
 -- a text with a byte that may not stand there is not good
 control-among : (rule : Rule) (b : ℕ) → may_stand rule b ≡ false → (s : List ℕ) → Memᴰ b s → no_control rule s ≡ false
 unfolding no_control
+control-among rule b n [] x' = elim x' [ ]
 control-among rule b n (x ∷ s) (Memᴰ.head e) = rw (← e, n)
 control-among rule b n (x ∷ s) (Memᴰ.tail m) = and-no-right (may_stand rule x) _ (control-among rule b n s m)
 

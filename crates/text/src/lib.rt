@@ -1,4 +1,5 @@
 // Texts, spans, sizes and flags: what documents 01 and 02 say of bytes before they say what they are for.
+#![tactic(auto)]
 pub mod compare;
 pub mod decimal;
 pub mod flags;

@@ -1,0 +1,11 @@
+-- `le::first` meets its contract. Assumes nothing.
+use mathlib.Core.Path.{sym}
+use native.Mathlib.Omega.{arith}
+use lib.Seq.{length-take-le, take_all}
+use Rattle.le.proofs.first.Goals as goal
+
+pub returns-then-s-n : goal.returns-then-s-n
+returns-then-s-n c = sym (take_all c.args.n _ (omega arith))
+
+pub slice_bounds-result-end : goal.slice_bounds-result-end
+slice_bounds-result-end c = sym (length-take-le _ _ (omega arith))

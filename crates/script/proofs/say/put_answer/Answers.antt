@@ -1,0 +1,10 @@
+-- `script::say::put_answer` meets its contract. Assumes nothing.
+use Rattle.script.proofs.SayLaws.{number_put, code_put}
+use native.Mathlib.Omega.{arith}
+use Rattle.script.proofs.say.put_answer.Goals as goal
+
+pub returns-then-fine : goal.returns-then-fine
+returns-then-fine c = record { put = number_put _ _ _ _ _ _ _ c.fine.ensures c.if-fine.true c.put_numeral.ensures.put; upper_bound = omega (arith, c.put_numeral.ensures.upper_bound) }
+
+pub returns : goal.returns
+returns c = record { put = code_put _ _ _ _ _ _ _ _ _ _ c.fine.ensures c.if-fine.false c.unsigned.ensures c.put_field-a.ensures c.put_digits.ensures.put; upper_bound = omega (arith, c.put_field-a.ensures.ends, c.put_digits.ensures.upper_bound) }

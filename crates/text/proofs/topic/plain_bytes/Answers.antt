@@ -1,0 +1,49 @@
+-- The answers for `text::topic::plain_bytes`.
+use mathlib.Core.Path.{refl}
+use Prim.Native.Nat.{◌+◌, ◌-◌, ◌≤◌, ◌<◌}
+use native.Mathlib.Omega.{arith}
+use lib.ListN.{length, get_or}
+use Rattle.text.proofs.Utf8Laws.{ascii-passed}
+use Rattle.text.proofs.TopicLaws.{control-turn}
+use Rattle.text.proofs.PlainLaws.{plain-stands, utf8-plain, control-plain}
+use Rattle.text.proofs.topic.plain_bytes.Goals as goal
+use Rattle.text.proofs.topic.plain_bytes.Goals.{then-s-i-ge4+then-plain, else-s-i-ge4}
+
+pub returns-else-plain : goal.returns-else-plain
+returns-else-plain c = (omega arith, refl, λ rule. refl)
+
+pub loop-i-init : goal.loop-i-init
+loop-i-init c =
+    let b = c.type_inv.s in
+    let a = c.args in
+    let s = a.s.now in
+    elim c.if-s-i-ge4.branch [
+      then-s-i-ge4+then-plain w ↦
+        let l : a.from + 4 ≤ length s = omega arith in
+        let p = w.plain.ensures w.if-plain.true in
+        rw w.i-is (
+          l,
+          utf8-plain 4 s a.from _ l b (omega arith) _ 0x20202020 (omega (arith, w.read_u32.ensures)) p refl,
+          λ rule. control-plain 4 s a.from _ l b (omega arith) _ 0x20202020 (omega (arith, w.read_u32.ensures)) p rule refl,
+        )
+    | else-s-i-ge4 w ↦ rw w.i-is (omega arith, refl, λ rule. refl)
+    ]
+
+pub returns-then-b-lt32 : goal.returns-then-b-lt32
+returns-then-b-lt32 c = c.loop-i.invariant
+
+pub returns-then-b-gt126 : goal.returns-then-b-gt126
+returns-then-b-gt126 c = c.loop-i.invariant
+
+pub loop-i-preserved : goal.loop-i-preserved
+loop-i-preserved c =
+    let s = c.args.s.now in
+    let l = c.loop-i in
+    let h : l.i < length s = omega arith in (
+      omega arith,
+      ascii-passed s l.i _ h l.invariant.1 (omega (arith, c.if-b-gt126.false)),
+      λ rule. control-turn rule s l.i _ h (plain-stands rule (get_or s l.i 0) (c.if-b-lt32.false, c.if-b-gt126.false)) (l.invariant.2 rule),
+    )
+
+pub returns : goal.returns
+returns c = c.loop-i.invariant
