@@ -27,7 +27,7 @@ pub struct Room {
 
 // The host's state. A flag is 0 or 1, a spoiled weave's reason its code. There is no padding.
 #[repr(C)]
-#[derive(Drop)]
+#[derive(Clone, Copy)]
 pub struct State {
     pub staginglen: u64,
     pub cardlen: u64,
