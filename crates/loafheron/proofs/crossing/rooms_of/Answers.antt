@@ -9,4 +9,4 @@ use Rattle.loafheron.proofs.crossing.rooms_of.Goals as goal
 pub returns : goal.returns
 unfolding rooms_of
 returns c =
-    let h : length c.args.t1 ≡ 4 = search rules in simp (c.room_of-a.ensures, c.room_of-b.ensures, c.room_of-c.ensures, c.room_of-d.ensures) (four room_of past_slots c.args.t1 h)
+    let h : length c.args.s ≡ 4 = search rules in simp (c.room_of-a.ensures, c.room_of-b.ensures, c.room_of-c.ensures, c.room_of-d.ensures) (four room_of past_slots c.args.s h)

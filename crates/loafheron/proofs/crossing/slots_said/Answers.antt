@@ -9,4 +9,4 @@ use Rattle.loafheron.proofs.crossing.slots_said.Goals as goal
 pub returns : goal.returns
 unfolding slots_said
 returns c =
-    let h : length c.args.t1 ≡ 4 = search rules in simp (c.slot_said-a.ensures, c.slot_said-b.ensures, c.slot_said-c.ensures, c.slot_said-d.ensures) (four slot_said past_rooms c.args.t1 h)
+    let h : length c.args.r ≡ 4 = search rules in simp (c.slot_said-a.ensures, c.slot_said-b.ensures, c.slot_said-c.ensures, c.slot_said-d.ensures) (four slot_said past_rooms c.args.r h)
