@@ -3,28 +3,29 @@ ghost use Rattle.std.specs.Prelude.{◌<◌};
 
 use cases::which;
 use saying::{answer, word};
+use streams::Streams;
 use text::lines::field;
 
 // Bytes, at the end of a line that asks for them.
-fn given(s: &[u8]) {
-    word(b":");
-    saying::bytes(s);
-    word(b"\n");
+fn given(streams: &mut Streams, s: &[u8]) {
+    word(streams, b":");
+    saying::bytes(streams, s);
+    word(streams, b"\n");
 }
 
 // 0 topic, 1 topic on a card, 2 filter
-fn good(k: usize, s: &[u8]) {
+fn good(streams: &mut Streams, k: usize, s: &[u8]) {
     match k {
-        0 => answer(text::topic::good_topic(s)),
-        1 => answer(text::topic::card_topic(s)),
-        _ => answer(text::topic::good_filter(s)),
+        0 => answer(streams, text::topic::good_topic(s)),
+        1 => answer(streams, text::topic::card_topic(s)),
+        _ => answer(streams, text::topic::good_filter(s)),
     }
 }
 
 // One of these, of so many `a`s.
-fn long(k: usize, n: usize) {
+fn long(streams: &mut Streams, k: usize, n: usize) {
     let a = [97u8; 2049];
-    good(k, le::front(&a, n));
+    good(streams, k, le::front(&a, n));
 }
 
 // Whether n letters with these bytes over them, from a place on, are UTF-8. There are 64 letters: a case has to fit.
@@ -51,18 +52,18 @@ fn places(k: usize, n: usize, s: &[u8]) -> u64
 }
 
 // 7 fields of s, 8 field k of s, 9 line at k of s, 10 closed s, 11 utf8 among n s, 12 utf8 behind 0 to n s
-fn parted(k: usize, l: &[u8], s: &[u8]) {
+fn parted(streams: &mut Streams, k: usize, l: &[u8], s: &[u8]) {
     match k {
-        7 => saying::result(text::lines::field_count(s) as u64),
-        8 => given(field(s, cases::size(l, 1))),
-        9 => given(text::lines::line(s, cases::size(l, 1))),
-        10 => answer(text::lines::closed(s)),
-        _ => saying::result(places(k, cases::size(l, 1) % 64, s)),
+        7 => saying::result(streams, text::lines::field_count(s) as u64),
+        8 => given(streams, field(s, cases::size(l, 1))),
+        9 => given(streams, text::lines::line(s, cases::size(l, 1))),
+        10 => answer(streams, text::lines::closed(s)),
+        _ => saying::result(streams, places(k, cases::size(l, 1) % 64, s)),
     }
 }
 
 // 0 utf8 s; 1 topic s, 2 topic on a card s, 3 filter s; 4 topic of n, 5 topic on a card of n, 6 filter of n; and those above.
-pub(crate) fn case(k: usize, l: &[u8]) {
+pub(crate) fn case(streams: &mut Streams, k: usize, l: &[u8]) {
     let mut b = [0u8; 64];
     let place = if (k == 8) | (k == 9) {
         3
@@ -74,27 +75,27 @@ pub(crate) fn case(k: usize, l: &[u8]) {
     let n = cases::bytes(field(l, place), &mut b);
     let s = le::front(&b, n);
     match k {
-        0 => answer(text::utf8::valid(s)),
-        1 => good(0, s),
-        2 => good(1, s),
-        3 => good(2, s),
-        4 => long(0, cases::size(l, 1)),
-        5 => long(1, cases::size(l, 1)),
-        6 => long(2, cases::size(l, 1)),
-        _ => parted(k, l, s),
+        0 => answer(streams, text::utf8::valid(s)),
+        1 => good(streams, 0, s),
+        2 => good(streams, 1, s),
+        3 => good(streams, 2, s),
+        4 => long(streams, 0, cases::size(l, 1)),
+        5 => long(streams, 1, cases::size(l, 1)),
+        6 => long(streams, 2, cases::size(l, 1)),
+        _ => parted(streams, k, l, s),
     }
 }
 
 // A topic, then what is asked of it.
-pub(crate) fn compared(l: &[u8]) {
+pub(crate) fn compared(streams: &mut Streams, l: &[u8]) {
     let t = field(l, 0);
     match which(
         b"begins with\tis a core topic\tis the panic topic",
         field(l, 1),
     ) {
-        0 => answer(text::compare::starts_with(t, field(l, 2))),
-        1 => answer(text::words::is_core(t)),
-        2 => answer(text::words::is_panic(t)),
-        _ => word(b"\n"),
+        0 => answer(streams, text::compare::starts_with(t, field(l, 2))),
+        1 => answer(streams, text::words::is_core(t)),
+        2 => answer(streams, text::words::is_panic(t)),
+        _ => word(streams, b"\n"),
     }
 }

@@ -4,6 +4,7 @@ use crate::tables::table_of;
 use card::Found;
 use record::EventId;
 use saying::{number, word};
+use streams::Streams;
 
 // The record that the table has for a number.
 fn by_table<'a>(s: &'a [u8], table: &[u32], id: u64) -> &'a [u8] {
@@ -24,51 +25,57 @@ fn by_walk<'a>(s: &'a [u8], first: u64, id: u64) -> &'a [u8] {
 }
 
 // look used staged next id: of so many bytes of the card and so many staged, and what is said to be the next number on the card.
-pub(crate) fn look(l: &[u8], card: &[u8]) {
+pub(crate) fn look(streams: &mut Streams, l: &[u8], card: &[u8]) {
     let table = table_of(le::front(card, 992), 1);
     let next = cases::number(l, 3);
     let id = cases::number(l, 4);
     if id < next {
-        found(by_table(le::front(card, cases::size(l, 1)), &table, id));
+        found(
+            streams,
+            by_table(le::front(card, cases::size(l, 1)), &table, id),
+        );
         return;
     }
-    found(by_walk(le::cut(card, 992, cases::size(l, 2)), next, id));
+    found(
+        streams,
+        by_walk(le::cut(card, 992, cases::size(l, 2)), next, id),
+    );
 }
 
 // The record's length and its own number, or that there is none.
-fn found(r: &[u8]) {
+fn found(streams: &mut Streams, r: &[u8]) {
     if r.len() < 128 {
-        word(b": none");
+        word(streams, b": none");
         return;
     }
-    word(b":");
-    number(r.len() as u64);
-    word(b" bytes, number");
-    number(le::read_u64(r, 8));
+    word(streams, b":");
+    number(streams, r.len() as u64);
+    word(streams, b" bytes, number");
+    number(streams, le::read_u64(r, 8));
 }
 
-fn damaged(s: &[u8], table: &[u32]) {
-    chains::chain(s, 1, 7);
-    word(b":");
+fn damaged(streams: &mut Streams, s: &[u8], table: &[u32]) {
+    chains::chain(streams, s, 1, 7);
+    word(streams, b":");
     let mut id: u64 = 1;
     while id < 7 {
-        number(by_table(s, table, id).len() as u64);
+        number(streams, by_table(s, table, id).len() as u64);
         id += 1;
     }
-    word(b"\n");
+    word(streams, b"\n");
 }
 
 // set at b: the byte at `at` of the card becomes b, and is then what it was. The chain, whether it goes up to 7, and the length of each record that
 // look-up still gives, 0 where it gives none.
-pub(crate) fn set(l: &[u8], card: &mut [u8]) {
+pub(crate) fn set(streams: &mut Streams, l: &[u8], card: &mut [u8]) {
     let at = cases::size(l, 1);
-    word(l);
+    word(streams, l);
     if card.len() <= at {
         return;
     }
     let table = table_of(le::front(card, 992), 1);
     let was = card[at];
     card[at] = (cases::number(l, 2) % 256) as u8;
-    damaged(le::front(card, 992), &table);
+    damaged(streams, le::front(card, 992), &table);
     card[at] = was;
 }

@@ -1,6 +1,7 @@
 // The card at its edges: six records on a card, and two staged behind them. Each line of the input is a case; it is written again, with what it gives. The
 // lines before them put the records there, and say nothing: of 152, 152, 136, 176, 168 and 208 bytes, 992 in all, and of 152 and 144.
 #![tactic(auto)]
+
 mod build;
 mod chains;
 mod look;
@@ -10,24 +11,26 @@ mod tables;
 
 use cases::which;
 use saying::word;
+use std::io;
+use streams::Streams;
 use text::lines::{field, line};
 
 // 3 chain, 4 look, 5 page, 6 pages, 7 read; a line that begins with another word is a heading.
-fn case(k: usize, l: &[u8], card: &[u8]) {
-    word(l);
+fn case(streams: &mut Streams, k: usize, l: &[u8], card: &[u8]) {
+    word(streams, l);
     match k {
-        3 => chains::case(l, card),
-        4 => look::look(l, card),
-        5 => pages::page(l, card),
-        6 => pages::pages(l, card),
-        7 => pages::read(l, card),
+        3 => chains::case(streams, l, card),
+        4 => look::look(streams, l, card),
+        5 => pages::page(streams, l, card),
+        6 => pages::pages(streams, l, card),
+        7 => pages::read(streams, l, card),
         _ => {}
     }
-    word(b"\n");
+    word(streams, b"\n");
 }
 
 // 0 record, 1 string, 2 set: how many bytes the card then has.
-fn step(l: &[u8], card: &mut [u8], n: usize) -> usize {
+fn step(streams: &mut Streams, l: &[u8], card: &mut [u8], n: usize) -> usize {
     let k = which(
         b"record\tstring\tset\tchain\tlook\tpage\tpages\tread",
         field(l, 0),
@@ -39,26 +42,28 @@ fn step(l: &[u8], card: &mut [u8], n: usize) -> usize {
         return build::string(l, card, n);
     }
     if k == 2 {
-        look::set(l, card);
+        look::set(streams, l, card);
         return n;
     }
-    case(k, l, card);
+    case(streams, k, l, card);
     n
 }
 
-fn each(text: &[u8], card: &mut [u8]) {
+fn each(streams: &mut Streams, text: &[u8], card: &mut [u8]) {
     let mut n: usize = 0;
     let mut at: usize = 0;
     while at < text.len() {
         let l = line(text, at);
-        n = step(l, card, n);
+        n = step(streams, l, card, n);
         at += l.len() + 1;
     }
 }
 
-fn main() {
-    let mut buffer = io::large_buffer();
-    let n = io::read_full(0, &mut buffer);
+fn main(rt: HostRuntime) -> io::Result<()> {
+    let mut streams = Streams::of(rt.stdin(), rt.stdout());
+    let mut buffer = [0u8; 65536];
+    let n = streams.read_full(&mut buffer);
     let mut card = [0u8; 1400];
-    each(&buffer[..n], &mut card);
+    each(&mut streams, &buffer[..n], &mut card);
+    streams.outcome()
 }

@@ -5,6 +5,7 @@ use crate::tables::table_of;
 use card::{Cursor, Numbers, Query, Way};
 use manifest::Manifest;
 use record::EventId;
+use streams::Streams;
 use text::lines::field;
 
 // The cursor that tl_open makes of its arguments: filter, from, to, limit, desc. (A filter above 64 bytes it has refused.)
@@ -26,7 +27,7 @@ fn cursor(l: &[u8]) -> Cursor {
 
 // Of the first n bytes of the card, by the table of the whole of it; it is said to have the numbers below `next`. For a module: 1 may list one topic, 2
 // none, 3 all four.
-fn one(l: &[u8], card: &[u8], c: Cursor) -> Step {
+fn one(streams: &mut Streams, l: &[u8], card: &[u8], c: Cursor) -> Step {
     let text =
         b"modules\t3\ngrant\t1\tin\tloop/take\ngrant\t2\tout\tloop/take\ngrant\t3\tin\tloop/take\ngrant\t3\tin\ta\ngrant\t3\tin\tloop/mix\ngrant\t3\tin\tloop/take/2\n";
     let s = le::front(card, cases::size(l, 1));
@@ -43,21 +44,21 @@ fn one(l: &[u8], card: &[u8], c: Cursor) -> Step {
         cursor: c,
         cap: cases::size(l, 9),
     };
-    show::page(s, &table, text, places, q, cases::size(l, 10))
+    show::page(streams, s, &table, text, places, q, cases::size(l, 10))
 }
 
 // page n next module filter from to limit desc cap out
-pub(crate) fn page(l: &[u8], card: &[u8]) {
-    one(l, card, cursor(l));
+pub(crate) fn page(streams: &mut Streams, l: &[u8], card: &[u8]) {
+    one(streams, l, card, cursor(l));
 }
 
 // The same, page after page until the list has ended, 8 at most.
-pub(crate) fn pages(l: &[u8], card: &[u8]) {
+pub(crate) fn pages(streams: &mut Streams, l: &[u8], card: &[u8]) {
     let mut at = cursor(l);
     let mut i: u64 = 0;
     while i < 8 {
         i += 1;
-        let step = one(l, card, at);
+        let step = one(streams, l, card, at);
         at = step.cursor;
         if step.ended {
             return;
@@ -66,7 +67,7 @@ pub(crate) fn pages(l: &[u8], card: &[u8]) {
 }
 
 // read topic start cap out: of the staged records, which have no table.
-pub(crate) fn read(l: &[u8], card: &[u8]) {
+pub(crate) fn read(streams: &mut Streams, l: &[u8], card: &[u8]) {
     let s = le::cut(card, 992, 296);
     let from = EventId(7);
     let to = EventId(9);
@@ -81,6 +82,6 @@ pub(crate) fn read(l: &[u8], card: &[u8]) {
             cap: cases::size(l, 3),
         };
         let table = [0u32; 1];
-        show::page(s, &table, topic, &place, q, cases::size(l, 4));
+        show::page(streams, s, &table, topic, &place, q, cases::size(l, 4));
     }
 }

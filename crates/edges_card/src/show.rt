@@ -6,6 +6,7 @@ ghost use Rattle.card.specs.declared.Page.TheVariants.{Fault};
 use card::{Cursor, Page, Query};
 use record::Header;
 use saying::{number, word};
+use streams::Streams;
 
 // The cursor after a page, and whether the list had ended.
 #[derive(Drop)]
@@ -15,7 +16,7 @@ pub(crate) struct Step {
 }
 
 // The pointer of the value that a record has.
-fn pointer(r: &[u8]) {
+fn pointer(streams: &mut Streams, r: &[u8]) {
     if r.len() < 128 {
         return;
     }
@@ -24,21 +25,21 @@ fn pointer(r: &[u8]) {
     let at = Header::payload_at(n);
     if flags == 2 {
         if at + 16 <= r.len() {
-            word(b" ptr");
-            number(le::read_u64(r, at + 8));
+            word(streams, b" ptr");
+            number(streams, le::read_u64(r, at + 8));
         }
     }
 }
 
 // The numbers of the records that these bytes are, and where they point to.
-fn ids(page: &[u8]) {
+fn ids(streams: &mut Streams, page: &[u8]) {
     let mut at: usize = 0;
     while at < page.len() {
         if page.len() - at < 16 {
             return;
         }
-        number(le::read_u64(page, at + 8));
-        pointer(le::tail(page, at));
+        number(streams, le::read_u64(page, at + 8));
+        pointer(streams, le::tail(page, at));
         let n = le::read_u32(page, at) as usize;
         if n == 0 {
             return;
@@ -48,11 +49,14 @@ fn ids(page: &[u8]) {
 }
 
 // Memory outside of the page has the bytes that it had.
-fn kept(s: &[u8]) {
+fn kept(streams: &mut Streams, s: &[u8]) {
     let mut i: usize = 0;
     while i < s.len() {
         if s[i] != 0xEE {
-            word(b", and memory changed behind the page or before it");
+            word(
+                streams,
+                b", and memory changed behind the page or before it",
+            );
             return;
         }
         i += 1;
@@ -60,42 +64,42 @@ fn kept(s: &[u8]) {
 }
 
 // What was found, and what now lies in memory from `out` on.
-fn found(p: Page, memory: &[u8], out: usize) -> bool {
-    kept(le::front(memory, out));
+fn found(streams: &mut Streams, p: Page, memory: &[u8], out: usize) -> bool {
+    kept(streams, le::front(memory, out));
     match p {
         Page::End => {
-            word(b": end");
-            kept(memory);
+            word(streams, b": end");
+            kept(streams, memory);
             true
         }
         Page::Short => {
-            word(b": no room");
-            kept(memory);
+            word(streams, b": no room");
+            kept(streams, memory);
             false
         }
         Page::Fault => {
-            word(b": not sound");
-            kept(memory);
+            word(streams, b": not sound");
+            kept(streams, memory);
             true
         }
         Page::Bytes(n) => {
-            word(b":");
-            number(n as u64);
-            word(b" bytes ids");
-            ids(le::cut(memory, out, n));
-            kept(le::tail(le::tail(memory, out), n));
+            word(streams, b":");
+            number(streams, n as u64);
+            word(streams, b" bytes ids");
+            ids(streams, le::cut(memory, out, n));
+            kept(streams, le::tail(le::tail(memory, out), n));
             false
         }
     }
 }
 
-fn stands(c: Cursor) {
-    word(b", then from");
-    number(c.from.0);
-    word(b" to");
-    number(c.to.0);
-    word(b" limit");
-    number(c.limit);
+fn stands(streams: &mut Streams, c: Cursor) {
+    word(streams, b", then from");
+    number(streams, c.from.0);
+    word(streams, b" to");
+    number(streams, c.to.0);
+    word(streams, b" limit");
+    number(streams, c.limit);
 }
 
 // Every record that was looked at is sound; else there is no page to copy.
@@ -112,6 +116,7 @@ fn sound(p: Page) -> bool
 
 // The page that is asked for, at the address `out`, of the part s with its table.
 pub(crate) fn page(
+    streams: &mut Streams,
     s: &[u8],
     table: &[u32],
     text: &[u8],
@@ -140,14 +145,14 @@ pub(crate) fn page(
     let mut memory = [0xEEu8; 2048];
     if sound(p) {
         let after = card::pages::copy_page(s, table, text, places, q, &mut memory, out);
-        let ended = found(p, &memory, out);
-        stands(after);
+        let ended = found(streams, p, &memory, out);
+        stands(streams, after);
         return Step {
             cursor: after,
             ended,
         };
     }
-    let ended = found(p, &memory, out);
-    stands(c);
+    let ended = found(streams, p, &memory, out);
+    stands(streams, c);
     Step { cursor: c, ended }
 }

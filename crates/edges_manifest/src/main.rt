@@ -10,10 +10,13 @@
 // label text                the text alone, for the next question
 // hand in, out module topic what a manifest grants that no text was read to
 #![tactic(auto)]
+
 mod making;
 mod show;
 
 use cases::{size, which};
+use std::io;
+use streams::Streams;
 use text::lines::{field, line};
 
 // What changes the text: how long it then is.
@@ -28,41 +31,43 @@ fn made(k: usize, l: &[u8], text: &mut [u8], n: usize) -> usize {
 }
 
 // What is said of it.
-fn said(k: usize, l: &[u8], text: &[u8]) {
+fn said(streams: &mut Streams, k: usize, l: &[u8], text: &[u8]) {
     match k {
-        0 => show::answer(field(l, 1), text),
-        4 => show::answer(field(l, 1), text),
-        5 => show::granted(l, text, false),
-        6 => show::granted(l, text, true),
-        7 => saying::word(field(l, 1)),
-        8 => show::by_hand(l),
+        0 => show::answer(streams, field(l, 1), text),
+        4 => show::answer(streams, field(l, 1), text),
+        5 => show::granted(streams, l, text, false),
+        6 => show::granted(streams, l, text, true),
+        7 => saying::word(streams, field(l, 1)),
+        8 => show::by_hand(streams, l),
         _ => {}
     }
 }
 
-fn step(l: &[u8], text: &mut [u8], n: usize) -> usize {
+fn step(streams: &mut Streams, l: &[u8], text: &mut [u8], n: usize) -> usize {
     let k = which(
         b"read\tnew\tadd\tgrants\task\tin\tout\tlabel\thand",
         field(l, 0),
     );
     let end = made(k, l, text, n);
-    said(k, l, le::front(text, end));
+    said(streams, k, l, le::front(text, end));
     end
 }
 
-fn each(input: &[u8], text: &mut [u8]) {
+fn each(streams: &mut Streams, input: &[u8], text: &mut [u8]) {
     let mut n: usize = 0;
     let mut at: usize = 0;
     while at < input.len() {
         let l = line(input, at);
-        n = step(l, text, n);
+        n = step(streams, l, text, n);
         at += l.len() + 1;
     }
 }
 
-fn main() {
-    let mut buffer = io::large_buffer();
-    let n = io::read_full(0, &mut buffer);
+fn main(rt: HostRuntime) -> io::Result<()> {
+    let mut streams = Streams::of(rt.stdin(), rt.stdout());
+    let mut buffer = [0u8; 65536];
+    let n = streams.read_full(&mut buffer);
     let mut text = [0u8; 132000];
-    each(&buffer[..n], &mut text);
+    each(&mut streams, &buffer[..n], &mut text);
+    streams.outcome()
 }

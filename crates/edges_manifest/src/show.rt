@@ -5,6 +5,7 @@ use manifest::charge::Charge;
 use manifest::grant::Grant;
 use manifest::head::Head;
 use saying::word;
+use streams::Streams;
 use text::compare::same;
 use text::lines::field;
 
@@ -16,43 +17,50 @@ fn edition(charge: Charge) -> u64 {
 }
 
 // What a text is read as, behind its name.
-pub(crate) fn answer(label: &[u8], text: &[u8]) {
-    word(label);
+pub(crate) fn answer(streams: &mut Streams, label: &[u8], text: &[u8]) {
+    word(streams, label);
     let m = Manifest::read(text);
     if m.good {
-        word(b": good, modules");
+        word(streams, b": good, modules");
         let head = m.head;
-        saying::number(head.modules);
-        word(b", charge");
+        saying::number(streams, head.modules);
+        word(streams, b", charge");
         let charge = head.charge;
-        saying::number(edition(charge));
-        word(b", grants");
-        saying::number(m.count as u64);
-        word(b"\n");
+        saying::number(streams, edition(charge));
+        word(streams, b", grants");
+        saying::number(streams, m.count as u64);
+        word(streams, b"\n");
         return;
     }
-    word(b": bad\n");
+    word(streams, b": bad\n");
 }
 
 // What a manifest of the text grants a module; `out` or else `in`.
-fn ask(m: Manifest, text: &[u8], module: &[u8], out: bool, topic: &[u8]) {
-    word(module);
+fn ask(streams: &mut Streams, m: Manifest, text: &[u8], module: &[u8], out: bool, topic: &[u8]) {
+    word(streams, module);
     if out {
-        word(b" out ");
+        word(streams, b" out ");
     } else {
-        word(b" in ");
+        word(streams, b" in ");
     }
-    word(topic);
-    saying::answer(m.granted(text, number(module, 0), out, topic));
+    word(streams, topic);
+    saying::answer(streams, m.granted(text, number(module, 0), out, topic));
 }
 
 // in, out module topic: of the text.
-pub(crate) fn granted(l: &[u8], text: &[u8], out: bool) {
-    ask(Manifest::read(text), text, field(l, 1), out, field(l, 2));
+pub(crate) fn granted(streams: &mut Streams, l: &[u8], text: &[u8], out: bool) {
+    ask(
+        streams,
+        Manifest::read(text),
+        text,
+        field(l, 1),
+        out,
+        field(l, 2),
+    );
 }
 
 // hand in, out module topic: of a manifest that no text was read to, with places and a count beyond everything.
-pub(crate) fn by_hand(l: &[u8]) {
+pub(crate) fn by_hand(streams: &mut Streams, l: &[u8]) {
     let far = Grant {
         start: 0xFFFF_FFFF,
         len: 0xFFFF,
@@ -69,8 +77,9 @@ pub(crate) fn by_hand(l: &[u8]) {
         count: 0xFFFF_FFFF_FFFF_FFFF,
         grants: [far; 64],
     };
-    word(b"made by hand: ");
+    word(streams, b"made by hand: ");
     ask(
+        streams,
         m,
         b"modules\t1\n",
         field(l, 2),

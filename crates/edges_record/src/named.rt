@@ -2,6 +2,7 @@
 use crate::samples;
 use record::EventId;
 use saying::{number, word};
+use streams::Streams;
 
 // A record of an agent, with flags 1 and no payload, is good.
 fn sound(topic: &[u8], agent: u64) -> bool {
@@ -15,18 +16,18 @@ fn sound(topic: &[u8], agent: u64) -> bool {
     record::good::good_record(le::front(&b, n), EventId(9))
 }
 
-pub fn named(topic: &[u8], agent: u64) {
-    word(b"agent");
-    number(agent);
-    word(b", topic ");
-    word(topic);
-    saying::good(sound(topic, agent));
+pub fn named(streams: &mut Streams, topic: &[u8], agent: u64) {
+    word(streams, b"agent");
+    number(streams, agent);
+    word(streams, b", topic ");
+    word(streams, topic);
+    saying::good(streams, sound(topic, agent));
 }
 
 // A topic of so many `a`s.
-pub fn long(n: usize) {
+pub fn long(streams: &mut Streams, n: usize) {
     let a = [97u8; 2049];
-    word(b"a topic of");
-    number(n as u64);
-    saying::good(sound(le::front(&a, n), 1));
+    word(streams, b"a topic of");
+    number(streams, n as u64);
+    saying::good(streams, sound(le::front(&a, n), 1));
 }

@@ -9,16 +9,17 @@
 // 7  an empty string: flags 2, module 1, topic `a`
 use record::{EventId, Header, VirtualTime};
 use saying::word;
+use streams::Streams;
 
-pub fn name(sample: u32) {
+pub fn name(streams: &mut Streams, sample: u32) {
     match sample {
-        1 => word(b"raw"),
-        2 => word(b"ingress"),
-        3 => word(b"string"),
-        4 => word(b"float"),
-        5 => word(b"boolean"),
-        6 => word(b"byte array"),
-        _ => word(b"empty string"),
+        1 => word(streams, b"raw"),
+        2 => word(streams, b"ingress"),
+        3 => word(streams, b"string"),
+        4 => word(streams, b"float"),
+        5 => word(streams, b"boolean"),
+        6 => word(streams, b"byte array"),
+        _ => word(streams, b"empty string"),
     }
 }
 

@@ -2,6 +2,7 @@
 use crate::samples;
 use record::EventId;
 use saying::{number, word};
+use streams::Streams;
 
 // A memory that has 5a in every byte, with a good record at an address.
 fn placed(r: &[u8], id: EventId, at: usize) -> [u8; 512] {
@@ -19,18 +20,18 @@ fn placed(r: &[u8], id: EventId, at: usize) -> [u8; 512] {
 }
 
 // What then stands at the address: the record, and at least 8 bytes behind it.
-pub fn shown(sample: u32, flags: u32, address: u64) {
+pub fn shown(streams: &mut Streams, sample: u32, flags: u32, address: u64) {
     let at = address as usize;
     let mut b = samples::bytes(sample);
     le::put_u32(&mut b, 12, flags);
     let h = samples::head(sample);
     let r = le::cut(&b, 8, samples::size(sample));
     let m = placed(r, h.id, at);
-    word(b", flags");
-    number(flags as u64);
-    word(b", at");
-    number(address);
-    word(b":");
-    saying::bytes(le::cut(&m, at, 184));
-    word(b"\n");
+    word(streams, b", flags");
+    number(streams, flags as u64);
+    word(streams, b", at");
+    number(streams, address);
+    word(streams, b":");
+    saying::bytes(streams, le::cut(&m, at, 184));
+    word(streams, b"\n");
 }

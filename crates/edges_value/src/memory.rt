@@ -1,6 +1,7 @@
 // Values of a memory: checked, stored, tested, shown.
 use crate::say;
 use saying::word;
+use streams::Streams;
 use value::Checked;
 
 // A memory of 2,048 bytes. At 16 a value with flags 11, whose last eight bytes are not 0; at 64 a text, behind it what is no text; all else is `a`.
@@ -20,55 +21,58 @@ fn memory(kind: u32, first: u64, second: u64) -> [u8; 2048] {
     m
 }
 
-fn accepted(m: &[u8; 2048], len: u64) {
+fn accepted(streams: &mut Streams, m: &[u8; 2048], len: u64) {
     let mut out = [0xA5u8; 2100];
     value::store::store_value(m, 16, &mut out, 8);
-    saying::number(len);
-    word(b" bytes:");
-    say::numbers(&out);
-    say::behind(&out);
-    say::good(value::form::good_stored(le::cut(&out, 8, len as usize)));
+    saying::number(streams, len);
+    word(streams, b" bytes:");
+    say::numbers(streams, &out);
+    say::behind(streams, &out);
+    say::good(
+        streams,
+        value::form::good_stored(le::cut(&out, 8, len as usize)),
+    );
     value::shown::show_value(&mut out, 8, 0x1000);
-    word(b"; shown at 1000:");
-    say::numbers(&out);
+    word(streams, b"; shown at 1000:");
+    say::numbers(streams, &out);
 }
 
-fn refused(m: &[u8; 2048], k: Checked) {
+fn refused(streams: &mut Streams, m: &[u8; 2048], k: Checked) {
     let mut out = [0xA5u8; 2100];
     value::store::store_value(m, 16, &mut out, 8);
     let f = k.fault;
-    say::code(f);
+    say::code(streams, f);
     if le::read_u64(&out, 8) == 0xA5A5_A5A5_A5A5_A5A5 {
-        word(b", nothing stored");
+        word(streams, b", nothing stored");
     } else {
-        word(b", but stored");
+        word(streams, b", but stored");
     }
 }
 
-pub fn asks(l: &[u8]) {
+pub fn asks(streams: &mut Streams, l: &[u8]) {
     let first = cases::pattern(text::lines::field(l, 3));
     let second = cases::pattern(text::lines::field(l, 4));
     let m = memory(cases::half(l, 2), first, second);
     let k = value::check::check_value(&m, 16);
     let len = k.len;
     if len == 0 {
-        refused(&m, k);
+        refused(streams, &m, k);
     } else {
-        accepted(&m, len);
+        accepted(streams, &m, len);
     }
 }
 
-pub fn address(p: u64) {
+pub fn address(streams: &mut Streams, p: u64) {
     let m = memory(2, 5, 0);
     let k = value::check::check_value(&m, p);
     let f = k.fault;
-    say::code(f);
+    say::code(streams, f);
 }
 
 // A string of 3 takes 35 bytes: into a buffer of 40, from `at` on.
-pub fn room(at: usize) {
+pub fn room(streams: &mut Streams, at: usize) {
     let m = memory(5, 67, 3);
     let mut out = [0xA5u8; 40];
     value::store::store_value(&m, 16, &mut out, at);
-    saying::pattern(le::read_u64(&out, 8));
+    saying::pattern(streams, le::read_u64(&out, 8));
 }

@@ -1,47 +1,48 @@
 // Scalars stored to 32 bytes, and decoded from them.
 use crate::say;
 use saying::word;
+use streams::Streams;
 use value::Value;
 use value::scalar::Scalar;
 
-fn signed(z: i64) {
+fn signed(streams: &mut Streams, z: i64) {
     if z < 0 {
-        word(b" signed, below 0");
+        word(streams, b" signed, below 0");
     } else if z == 0 {
-        word(b" signed 0");
+        word(streams, b" signed 0");
     } else {
-        word(b" signed, above 0");
+        word(streams, b" signed, above 0");
     }
 }
 
-fn float(x: f64) {
+fn float(streams: &mut Streams, x: f64) {
     if x < 0.0 {
-        word(b" float, below 0");
+        word(streams, b" float, below 0");
     } else if x == 0.0 {
-        word(b" float 0");
+        word(streams, b" float 0");
     } else if x > 0.0 {
-        word(b" float, above 0");
+        word(streams, b" float, above 0");
     } else {
-        word(b" float, not a number");
+        word(streams, b" float, not a number");
     }
 }
 
-fn scalar(s: Scalar) {
+fn scalar(streams: &mut Streams, s: Scalar) {
     match s {
-        Scalar::Unit => word(b" unit"),
+        Scalar::Unit => word(streams, b" unit"),
         Scalar::Bool(b) => {
             if b {
-                word(b" true");
+                word(streams, b" true");
             } else {
-                word(b" false");
+                word(streams, b" false");
             }
         }
-        Scalar::Signed(z) => signed(z),
+        Scalar::Signed(z) => signed(streams, z),
         Scalar::Unsigned(n) => {
-            word(b" unsigned");
-            saying::number(n);
+            word(streams, b" unsigned");
+            saying::number(streams, n);
         }
-        Scalar::Float(x) => float(x),
+        Scalar::Float(x) => float(streams, x),
     }
 }
 
@@ -70,16 +71,16 @@ fn of(k: u64) -> Scalar {
     }
 }
 
-pub fn back(k: u64) {
+pub fn back(streams: &mut Streams, k: u64) {
     let mut out = [0xA5u8; 2100];
     value::scalar::put_scalar(&mut out, 8, 7, of(k));
-    say::numbers(&out);
-    say::behind(&out);
+    say::numbers(streams, &out);
+    say::behind(streams, &out);
     let v = value::decode::read_value(&out, 8);
     match v {
-        Value::Plain(t) => scalar(t),
-        Value::Text(t) => word(b" string"),
-        Value::Array(t) => word(b" byte array"),
-        Value::Wrong => word(b" wrong"),
+        Value::Plain(t) => scalar(streams, t),
+        Value::Text(t) => word(streams, b" string"),
+        Value::Array(t) => word(streams, b" byte array"),
+        Value::Wrong => word(streams, b" wrong"),
     }
 }

@@ -6,6 +6,7 @@ use crate::{pages, say, words};
 use cases::number;
 use host::{Answer, Fate, Host};
 use record::EventId;
+use streams::Streams;
 
 // Where a read (2) or a next (4) puts its page.
 fn out_of(k: usize, memory: &[u8], at: u64) -> usize {
@@ -40,6 +41,7 @@ fn answered(
 }
 
 pub(crate) fn by_module(
+    streams: &mut Streams,
     h: Host,
     k: usize,
     memory: &mut [u8],
@@ -52,16 +54,17 @@ pub(crate) fn by_module(
     let out = out_of(k, memory, at);
     let a = answered(h, k, memory, staging, card, text, index, at);
     let c = a.code;
-    say::answer(c, a.value);
-    say::field(c.bad(), a.field);
+    say::answer(streams, c, a.value);
+    say::field(streams, c.bad(), a.field);
     if (k == 2) | (k == 4) {
-        pages::events(memory, out, a.value as usize);
+        pages::events(streams, memory, out, a.value as usize);
     }
     a.host
 }
 
 // ingress topic payload: as they lie in memory.
 pub(crate) fn ingress(
+    streams: &mut Streams,
     h: Host,
     memory: &[u8],
     staging: &mut [u8],
@@ -72,18 +75,25 @@ pub(crate) fn ingress(
     let payload = le::cut(memory, DATA, word_at(memory, 32) as usize);
     let a = writes::stage::ingress(h, staging, card, text, topic, payload);
     let c = a.code;
-    say::answer(c, a.value);
-    say::field(false, a.field);
+    say::answer(streams, c, a.value);
+    say::field(streams, false, a.field);
     a.host
 }
 
 // mount used
-pub(crate) fn mount(l: &[u8], staging: &[u8], card: &[u8], text: &[u8], index: &mut [u32]) -> Host {
+pub(crate) fn mount(
+    streams: &mut Streams,
+    l: &[u8],
+    staging: &[u8],
+    card: &[u8],
+    text: &[u8],
+    index: &mut [u32],
+) -> Host {
     let m = mounts::mount::mount(staging, card, text, index, number(l, 1) as usize);
     let c = m.code;
-    say::answer(c, 0);
-    saying::word(b" at");
-    saying::number(m.at as u64);
+    say::answer(streams, c, 0);
+    saying::word(streams, b" at");
+    saying::number(streams, m.at as u64);
     m.host
 }
 
@@ -97,37 +107,45 @@ fn begin_args(l: &[u8]) -> [u8; 136]
     args
 }
 
-pub(crate) fn begin(h: Host, l: &[u8], staging: &mut [u8], card: &[u8], text: &[u8]) -> Host {
+pub(crate) fn begin(
+    streams: &mut Streams,
+    h: Host,
+    l: &[u8],
+    staging: &mut [u8],
+    card: &[u8],
+    text: &[u8],
+) -> Host {
     let args = begin_args(l);
     let size = cases::number_or(l, 3, 128) as usize;
     let a = h.begin(staging, card, text, le::front(&args, size));
     let c = a.code;
-    say::answer(c, a.value);
-    say::field(false, a.field);
+    say::answer(streams, c, a.value);
+    say::field(streams, false, a.field);
     a.host
 }
 
-fn say_fate(f: Fate) {
+fn say_fate(streams: &mut Streams, f: Fate) {
     match f {
-        Fate::Refused(c) => say::answer(c, 0),
+        Fate::Refused(c) => say::answer(streams, c, 0),
         Fate::Discarded(c) => {
-            saying::word(b" discarded");
-            say::answer(c, 0);
+            saying::word(streams, b" discarded");
+            say::answer(streams, c, 0);
         }
-        Fate::Running => saying::word(b" running"),
+        Fate::Running => saying::word(streams, b" running"),
         Fate::Committed {
             events: e,
             bytes: b,
         } => {
-            saying::word(b" committed");
-            saying::number(e);
-            saying::number(b as u64);
+            saying::word(streams, b" committed");
+            saying::number(streams, e);
+            saying::number(streams, b as u64);
         }
     }
 }
 
 // return code
 pub(crate) fn ending(
+    streams: &mut Streams,
     h: Host,
     l: &[u8],
     staging: &mut [u8],
@@ -137,12 +155,13 @@ pub(crate) fn ending(
 ) -> Host {
     let r = h.module_return(staging, card, text, index, words::returned(l));
     let f = r.fate;
-    say_fate(f);
+    say_fate(streams, f);
     r.host
 }
 
 // lookup id: how long the record is, its own number, and the sum of its bytes.
 pub(crate) fn look_up<'a>(
+    streams: &mut Streams,
     h: Host,
     l: &[u8],
     staging: &'a [u8],
@@ -153,12 +172,12 @@ pub(crate) fn look_up<'a>(
     let id = EventId(number(l, 1));
     let r = mounts::look::look_up(h, staging, card, text, index, id);
     if r.len() == 0 {
-        saying::word(b" none");
+        saying::word(streams, b" none");
         return;
     }
-    saying::number(r.len() as u64);
-    saying::word(b" bytes, id");
-    saying::number(word_at(r, 8));
-    saying::word(b", sum");
-    saying::number(words::sum(r));
+    saying::number(streams, r.len() as u64);
+    saying::word(streams, b" bytes, id");
+    saying::number(streams, word_at(r, 8));
+    saying::word(streams, b", sum");
+    saying::number(streams, words::sum(r));
 }

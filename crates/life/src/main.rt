@@ -1,6 +1,7 @@
 // Whole lives of a box, call by call. Each line of the input is a step: it is written again, with what the host answers and all that changed.
 // `stdout` was made from documents 01 and 02 by other means than this program.
 #![tactic(auto)]
+
 mod calls;
 mod hand;
 mod lay;
@@ -12,6 +13,9 @@ mod state;
 mod words;
 
 ghost use Rattle.std.specs.Prelude.{◌≡◌, length};
+
+use std::io;
+use streams::Streams;
 
 // A card's, and a manifest's.
 type Buffer = [u8; 65536];
@@ -30,15 +34,17 @@ fn large() -> Large
     [0; 1048584]
 }
 
-fn main() {
+fn main(rt: HostRuntime) -> io::Result<()> {
+    let mut streams = Streams::of(rt.stdin(), rt.stdout());
     let mut text = large();
-    let n = io::read_full(0, &mut text);
+    let n = streams.read_full(&mut text);
     let mut memory = large();
     let mut staging = large();
-    let mut card = io::large_buffer();
-    let mut manifest = io::large_buffer();
+    let mut card = [0u8; 65536];
+    let mut manifest = [0u8; 65536];
     let mut index = [0u32; ENTRIES];
     script::each(
+        &mut streams,
         &text[..n],
         &mut memory,
         &mut staging,
@@ -46,4 +52,5 @@ fn main() {
         &mut manifest,
         &mut index,
     );
+    streams.outcome()
 }

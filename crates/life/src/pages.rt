@@ -4,6 +4,7 @@ ghost use Rattle.std.specs.Prelude.{◌<◌};
 use crate::lay::word_at;
 use crate::say;
 use saying::word;
+use streams::Streams;
 
 fn half(s: &[u8], at: usize) -> usize
     ensures { result < 4294967296 }
@@ -12,65 +13,73 @@ fn half(s: &[u8], at: usize) -> usize
 }
 
 // A value: its type and flags; a text or bytes where its pointer says, or a number.
-fn value(memory: &[u8], v: &[u8]) {
+fn value(streams: &mut Streams, memory: &[u8], v: &[u8]) {
     let t = half(v, 0);
     let n = word_at(v, 8);
-    word(b" type");
-    saying::number(t as u64);
-    word(b" flags");
-    saying::number(word_at(v, 0) / 4294967296);
+    word(streams, b" type");
+    saying::number(streams, t as u64);
+    word(streams, b" flags");
+    saying::number(streams, word_at(v, 0) / 4294967296);
     if (t == 5) | (t == 9) {
-        word(b" ptr");
-        saying::number(n);
-        say::text(le::cut(memory, n as usize, word_at(v, 16) as usize));
+        word(streams, b" ptr");
+        saying::number(streams, n);
+        say::text(
+            streams,
+            le::cut(memory, n as usize, word_at(v, 16) as usize),
+        );
         return;
     }
-    saying::number(n);
+    saying::number(streams, n);
 }
 
-fn payload(memory: &[u8], flags: usize, p: &[u8]) {
+fn payload(streams: &mut Streams, memory: &[u8], flags: usize, p: &[u8]) {
     if (flags == 2) | (flags == 10) {
-        value(memory, p);
+        value(streams, memory, p);
         return;
     }
-    say::text(p);
+    say::text(streams, p);
 }
 
-fn header(r: &[u8]) {
-    word(b"\n  event");
-    saying::number(word_at(r, 8));
-    word(b" flags");
-    saying::number(half(r, 4) as u64);
-    word(b" time");
-    saying::number(word_at(r, 16));
-    word(b" agent");
-    saying::number(word_at(r, 32));
+fn header(streams: &mut Streams, r: &[u8]) {
+    word(streams, b"\n  event");
+    saying::number(streams, word_at(r, 8));
+    word(streams, b" flags");
+    saying::number(streams, half(r, 4) as u64);
+    word(streams, b" time");
+    saying::number(streams, word_at(r, 16));
+    word(streams, b" agent");
+    saying::number(streams, word_at(r, 32));
 }
 
 // The record that these bytes of memory begin with; how long it is.
-fn event(memory: &[u8], r: &[u8]) -> usize
+fn event(streams: &mut Streams, memory: &[u8], r: &[u8]) -> usize
     ensures { result < 4294967296 }
 {
     let n = half(r, 80);
     let d = half(r, 84);
-    header(r);
-    say::text(le::cut(r, 128, n));
-    payload(memory, half(r, 4), le::cut(r, 128 + (n + 7) / 8 * 8, d));
+    header(streams, r);
+    say::text(streams, le::cut(r, 128, n));
+    payload(
+        streams,
+        memory,
+        half(r, 4),
+        le::cut(r, 128 + (n + 7) / 8 * 8, d),
+    );
     half(r, 0)
 }
 
 // Those of the page of n bytes at `out`; what is said behind them has a line of its own.
-pub(crate) fn events(memory: &[u8], out: usize, n: usize) {
+pub(crate) fn events(streams: &mut Streams, memory: &[u8], out: usize, n: usize) {
     let page = le::cut(memory, out, n);
     let mut at: usize = 0;
     while at < page.len() {
-        let size = event(memory, le::tail(page, at));
+        let size = event(streams, memory, le::tail(page, at));
         if size == 0 {
             return;
         }
         at += size;
     }
     if 0 < at {
-        word(b"\n");
+        word(streams, b"\n");
     }
 }

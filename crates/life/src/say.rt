@@ -1,16 +1,16 @@
 // What a line is made of.
-use libc::STDOUT_FILENO;
 use saying::{number, word};
+use streams::Streams;
 use value::scalar::Scalar;
 use weave::Code;
 
 // A text, and how long it is where it is cut.
-pub(crate) fn text(s: &[u8]) {
-    word(b" ");
-    word(le::front(s, 40));
+pub(crate) fn text(streams: &mut Streams, s: &[u8]) {
+    word(streams, b" ");
+    word(streams, le::front(s, 40));
     if 40 < s.len() {
-        word(b"..");
-        number(s.len() as u64);
+        word(streams, b"..");
+        number(streams, s.len() as u64);
     }
 }
 
@@ -26,19 +26,19 @@ pub(crate) fn below_0(c: Code) -> u64 {
 }
 
 // A code, or the number that is answered where it is fine.
-pub(crate) fn answer(c: Code, n: u64) {
+pub(crate) fn answer(streams: &mut Streams, c: Code, n: u64) {
     if c.fine() {
-        number(n);
+        number(streams, n);
         return;
     }
-    word(b" -");
-    io::print_decimal(STDOUT_FILENO, below_0(c));
+    word(streams, b" -");
+    streams.decimal(below_0(c));
 }
 
 // The field that comes with -5 from a module call. Where none may come and one does, it is said too.
-pub(crate) fn field(comes: bool, n: u64) {
+pub(crate) fn field(streams: &mut Streams, comes: bool, n: u64) {
     if comes | (n != 0) {
-        word(b" field");
-        number(n);
+        word(streams, b" field");
+        number(streams, n);
     }
 }

@@ -5,6 +5,7 @@ use cases::{number, which};
 use host::Host;
 use record::EventId;
 use saying::word;
+use streams::Streams;
 use text::lines::{field, line};
 use weave::Lengths;
 
@@ -20,6 +21,7 @@ fn none() -> Host {
 
 // What changes no byte: 0 state, 1 mount, 2 lookup.
 fn looked<'a>(
+    streams: &mut Streams,
     h: Host,
     k: usize,
     l: &[u8],
@@ -30,9 +32,9 @@ fn looked<'a>(
 ) -> Host {
     match k {
         0 => state::set(h, l),
-        1 => calls::mount(l, staging, card, text, index),
+        1 => calls::mount(streams, l, staging, card, text, index),
         _ => {
-            calls::look_up(h, l, staging, card, text, index);
+            calls::look_up(streams, h, l, staging, card, text, index);
             h
         }
     }
@@ -40,6 +42,7 @@ fn looked<'a>(
 
 // What changes staging or card: 3 begin, 4 return, 5 ingress.
 fn staged(
+    streams: &mut Streams,
     h: Host,
     k: usize,
     l: &[u8],
@@ -50,9 +53,9 @@ fn staged(
     index: &mut [u32],
 ) -> Host {
     match k {
-        3 => calls::begin(h, l, staging, card, text),
-        4 => calls::ending(h, l, staging, card, text, index),
-        _ => calls::ingress(h, memory, staging, card, text),
+        3 => calls::begin(streams, h, l, staging, card, text),
+        4 => calls::ending(streams, h, l, staging, card, text, index),
+        _ => calls::ingress(streams, h, memory, staging, card, text),
     }
 }
 
@@ -76,6 +79,7 @@ fn called(l: &[u8]) -> Call {
 }
 
 fn done(
+    streams: &mut Streams,
     h: Host,
     l: &[u8],
     memory: &mut [u8],
@@ -91,22 +95,23 @@ fn done(
     if 12 < k {
         return h;
     }
-    word(b":");
+    word(streams, b":");
     if k < 3 {
-        return looked(h, k, l, staging, card, text, index);
+        return looked(streams, h, k, l, staging, card, text, index);
     }
     if k < 6 {
-        return staged(h, k, l, memory, staging, card, text, index);
+        return staged(streams, h, k, l, memory, staging, card, text, index);
     }
     let c = called(l);
     if c.k == 6 {
-        return staged(h, 5, l, memory, staging, card, text, index);
+        return staged(streams, h, 5, l, memory, staging, card, text, index);
     }
-    calls::by_module(h, c.k, memory, staging, card, text, index, c.at)
+    calls::by_module(streams, h, c.k, memory, staging, card, text, index, c.at)
 }
 
 // A step, and what it has changed.
 fn shown(
+    streams: &mut Streams,
     h: Host,
     l: &[u8],
     memory: &mut [u8],
@@ -116,16 +121,22 @@ fn shown(
     index: &mut [u32],
 ) -> Host {
     let was = show::sums(memory, staging, card, index);
-    let after = done(h, l, memory, staging, card, text, index);
-    show::state(h, after);
+    let after = done(streams, h, l, memory, staging, card, text, index);
+    show::state(streams, h, after);
     let is = show::sums(memory, staging, card, index);
-    show::changed(b"memory sum\tstaging sum\tcard sum\tindex sum", &was, &is);
-    word(b"\n");
+    show::changed(
+        streams,
+        b"memory sum\tstaging sum\tcard sum\tindex sum",
+        &was,
+        &is,
+    );
+    word(streams, b"\n");
     after
 }
 
 // A step with as much of each buffer as is lent.
 fn step(
+    streams: &mut Streams,
     h: Host,
     is: [usize; 5],
     l: &[u8],
@@ -141,6 +152,7 @@ fn step(
     let text = le::front(manifest, is[3]);
     let n = lent_entries(is[4], index);
     shown(
+        streams,
         h,
         l,
         &mut memory[..m],
@@ -153,6 +165,7 @@ fn step(
 
 // The line, and what it does by hand; how much is lent.
 fn by_hand(
+    streams: &mut Streams,
     is: [usize; 5],
     l: &[u8],
     memory: &mut Large,
@@ -161,7 +174,7 @@ fn by_hand(
     manifest: &mut Buffer,
     index: &mut Table,
 ) -> [usize; 5] {
-    word(l);
+    word(streams, l);
     hand::bytes(l, memory, staging, card, manifest, index);
     hand::lengths(is, l, manifest)
 }
@@ -174,6 +187,7 @@ struct Life {
 }
 
 fn lived(
+    streams: &mut Streams,
     was: Life,
     l: &[u8],
     memory: &mut Large,
@@ -183,12 +197,15 @@ fn lived(
     index: &mut Table,
 ) -> Life {
     let before = was.lent;
-    let lent = by_hand(before, l, memory, staging, card, manifest, index);
-    let host = step(was.host, lent, l, memory, staging, card, manifest, index);
+    let lent = by_hand(streams, before, l, memory, staging, card, manifest, index);
+    let host = step(
+        streams, was.host, lent, l, memory, staging, card, manifest, index,
+    );
     Life { host, lent }
 }
 
 pub(crate) fn each(
+    streams: &mut Streams,
     text: &[u8],
     memory: &mut Large,
     staging: &mut Large,
@@ -203,6 +220,6 @@ pub(crate) fn each(
     while at < text.len() {
         let l = line(text, at);
         at += l.len() + 1;
-        life = lived(life, l, memory, staging, card, manifest, index);
+        life = lived(streams, life, l, memory, staging, card, manifest, index);
     }
 }

@@ -5,6 +5,7 @@ use crate::say;
 use crate::words::{entry_sum, sum};
 use host::Host;
 use saying::word;
+use streams::Streams;
 use text::lines::field;
 use weave::{Slot, Weave};
 
@@ -66,44 +67,44 @@ fn of_slot(s: Slot) -> [u64; 7] {
 }
 
 // Each number that has changed, behind its name.
-pub(crate) fn changed(names: &[u8], was: &[u64], is: &[u64]) {
+pub(crate) fn changed(streams: &mut Streams, names: &[u8], was: &[u64], is: &[u64]) {
     let mut i = 0;
     while i < was.len() {
         if is.len() <= i {
             return;
         }
         if was[i] != is[i] {
-            word(b"  ");
-            word(field(names, i));
-            saying::number(is[i]);
+            word(streams, b"  ");
+            word(streams, field(names, i));
+            saying::number(streams, is[i]);
         }
         i += 1;
     }
 }
 
-fn cursors(was: [Slot; 4], is: [Slot; 4]) {
+fn cursors(streams: &mut Streams, was: [Slot; 4], is: [Slot; 4]) {
     let names = b"handle\tsize\tfilter\tfrom\tto\tlimit\tdesc";
     let mut i = 0;
     while i < 4 {
-        changed(names, &of_slot(was[i]), &of_slot(is[i]));
+        changed(streams, names, &of_slot(was[i]), &of_slot(is[i]));
         i += 1;
     }
 }
 
-fn weave(was: Weave, is: Weave) {
+fn weave(streams: &mut Streams, was: Weave, is: Weave) {
     let names = b"running\tspoiled\tturn\tlate\tstaged\tcount\tunits\tmost\ttime\ttrace\topened";
-    changed(names, &of_weave(was), &of_weave(is));
+    changed(streams, names, &of_weave(was), &of_weave(is));
     let a = was.slots;
     let b = is.slots;
-    cursors(a, b);
+    cursors(streams, a, b);
 }
 
-pub(crate) fn state(was: Host, is: Host) {
+pub(crate) fn state(streams: &mut Streams, was: Host, is: Host) {
     let names = b"faulted\tused\tnext\tstaging length\tcard length\tmanifest length\tindex length";
-    changed(names, &of_host(was), &of_host(is));
+    changed(streams, names, &of_host(was), &of_host(is));
     let a = was.weave;
     let b = is.weave;
-    weave(a, b);
+    weave(streams, a, b);
 }
 
 pub(crate) fn sums(memory: &[u8], staging: &[u8], card: &[u8], index: &[u32]) -> [u64; 4]

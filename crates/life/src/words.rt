@@ -1,6 +1,5 @@
 // A step's words and numbers, and sums of bytes.
-ghost use Rattle.std.specs.Prelude.{◌<◌};
-ghost use Rattle.io.specs.Counts.{IsPrefixLen};
+ghost use Rattle.std.specs.Prelude.{◌≡◌, ◌<◌, ◌≤◌, length, take};
 
 use cases::number;
 use text::compare::same;
@@ -38,7 +37,8 @@ pub(crate) fn returned(l: &[u8]) -> i64 {
 
 // How much of s is lent where n bytes of it are to be: all of it where it has not so many.
 pub(crate) fn lent(n: usize, s: &[u8]) -> usize
-    ensures { IsPrefixLen result s.now }
+    ensures in_bounds { result ≤ length s.now }
+    ensures len { result ≡ length (take result s.now) }
 {
     if n < s.len() {
         return n;
@@ -48,7 +48,8 @@ pub(crate) fn lent(n: usize, s: &[u8]) -> usize
 
 // The same of a table's entries.
 pub(crate) fn lent_entries(n: usize, s: &[u32]) -> usize
-    ensures { IsPrefixLen result s.now }
+    ensures in_bounds { result ≤ length s.now }
+    ensures len { result ≡ length (take result s.now) }
 {
     if n < s.len() {
         return n;

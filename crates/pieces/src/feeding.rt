@@ -5,14 +5,14 @@ ghost use Rattle.session.specs.Sessions.{buffers_of};
 ghost use Rattle.pieces.specs.Feeding.{stand_of, Hears, one_line, fed, last_line, ended};
 
 use crate::{Play, Step};
-use libc::STDOUT_FILENO;
 use script::Buffer;
 use script::gather::gather;
 use session::Index;
+use streams::Streams;
 
 // What one line printed. No contract can say what reaches standard output: this hand-over is only tested.
-fn tell(out: &Buffer, n: usize) {
-    io::write_all(STDOUT_FILENO, le::front(out, n));
+fn tell(streams: &mut Streams, out: &Buffer, n: usize) {
+    streams.write(le::front(out, n));
 }
 
 impl Play {
@@ -66,6 +66,7 @@ impl Play {
     // One piece.
     pub fn feed(
         self,
+        streams: &mut Streams,
         piece: &[u8],
         line: &mut Buffer,
         memory: &mut Buffer,
@@ -81,7 +82,7 @@ impl Play {
         let mut at = 0;
         while at < piece.len() {
             let s = play.step(piece, at, line, memory, staging, card, text, index, out);
-            tell(out, s.wrote);
+            tell(streams, out, s.wrote);
             at = s.at;
             let next = s.play;
             play = next;
@@ -92,6 +93,7 @@ impl Play {
     // The last line of the input may lack byte 10.
     fn last(
         self,
+        streams: &mut Streams,
         line: &Buffer,
         memory: &mut Buffer,
         staging: &mut Buffer,
@@ -106,7 +108,7 @@ impl Play {
             return self;
         }
         let t = self.closed(line, memory, staging, card, text, index, out);
-        tell(out, t.wrote);
+        tell(streams, out, t.wrote);
         let next = t.play;
         next
     }
@@ -114,6 +116,7 @@ impl Play {
     // The end of the input.
     pub fn end(
         self,
+        streams: &mut Streams,
         line: &Buffer,
         memory: &mut Buffer,
         staging: &mut Buffer,
@@ -124,9 +127,9 @@ impl Play {
     ) -> Play
         ensures { stand_of result line.now (buffers_of memory.new staging.new card.new text.new index.new) ≡ (ended (stand_of self line.now (buffers_of memory.old staging.old card.old text.old index.old))).stand }
     {
-        let play = self.last(line, memory, staging, card, text, index, out);
+        let play = self.last(streams, line, memory, staging, card, text, index, out);
         let n = play.finish(out);
-        tell(out, n);
+        tell(streams, out, n);
         play
     }
 }

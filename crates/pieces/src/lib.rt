@@ -1,5 +1,6 @@
 // Standard input, piece by piece: each line of it is answered as soon as it is whole. The one loop of the programs `rehearse` and `sessions`.
 #![tactic(auto)]
+
 pub mod closing;
 pub mod feeding;
 pub mod standing;

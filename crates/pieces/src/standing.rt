@@ -4,9 +4,9 @@ ghost use Rattle.session.specs.Sessions.{buffers_of, fresh_session};
 ghost use Rattle.pieces.specs.Feeding.{stand_as, stand_of, Read, ReadAll};
 
 use crate::{Play, Turn};
-use libc::STDIN_FILENO;
 use script::Buffer;
 use session::{Index, Session};
+use streams::Streams;
 
 impl Play {
     fn fresh(many: bool) -> Play
@@ -24,6 +24,7 @@ impl Play {
     // The next piece, as many bytes as there are by now: at a keyboard a line is answered when it is typed.
     fn more(
         self,
+        streams: &mut Streams,
         line: &mut Buffer,
         memory: &mut Buffer,
         staging: &mut Buffer,
@@ -34,11 +35,12 @@ impl Play {
     ) -> Turn
         ensures { Read (stand_of self line.old (buffers_of memory.old staging.old card.old text.old index.old)) (stand_of result.play line.new (buffers_of memory.new staging.new card.new text.new index.new)) result.last }
     {
-        let mut input = io::large_buffer();
-        let got = libc::read(STDIN_FILENO, &mut input);
-        let n = io::count(got, &input);
+        let mut input = [0u8; 65536];
+        let n = streams.read(&mut input);
         let piece = le::front(&input, n);
-        let play = self.feed(piece, line, memory, staging, card, text, index, out);
+        let play = self.feed(
+            streams, piece, line, memory, staging, card, text, index, out,
+        );
         let session = play.session;
         Turn {
             play,
@@ -48,6 +50,7 @@ impl Play {
 
     fn through(
         self,
+        streams: &mut Streams,
         line: &mut Buffer,
         memory: &mut Buffer,
         staging: &mut Buffer,
@@ -63,7 +66,7 @@ impl Play {
         let mut turns = u64::MAX;
         while turns > 0 {
             turns -= 1;
-            let t = play.more(line, memory, staging, card, text, index, out);
+            let t = play.more(streams, line, memory, staging, card, text, index, out);
             let next = t.play;
             play = next;
             if t.last {
@@ -75,16 +78,17 @@ impl Play {
 }
 
 // All of standard input: one session, or many under their names.
-pub fn all(many: bool) {
-    let mut line = io::large_buffer();
-    let mut memory = io::large_buffer();
-    let mut staging = io::large_buffer();
-    let mut card = io::large_buffer();
-    let mut text = io::large_buffer();
+pub fn all(streams: &mut Streams, many: bool) {
+    let mut line = [0u8; 65536];
+    let mut memory = [0u8; 65536];
+    let mut staging = [0u8; 65536];
+    let mut card = [0u8; 65536];
+    let mut text = [0u8; 65536];
     let mut index: Index = [0; 481];
-    let mut out = io::large_buffer();
+    let mut out = [0u8; 65536];
     let play = Play::fresh(many);
     let last = play.through(
+        streams,
         &mut line,
         &mut memory,
         &mut staging,
@@ -94,6 +98,7 @@ pub fn all(many: bool) {
         &mut out,
     );
     last.end(
+        streams,
         &line,
         &mut memory,
         &mut staging,

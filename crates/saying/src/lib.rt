@@ -1,21 +1,22 @@
 // What a line of a program's answers is made of.
 #![tactic(auto)]
-use libc::STDOUT_FILENO;
 
-pub fn word(s: &[u8]) {
-    io::write_all(STDOUT_FILENO, s);
+use streams::Streams;
+
+pub fn word(streams: &mut Streams, s: &[u8]) {
+    streams.write(s);
 }
 
 // A number, behind a blank.
-pub fn number(n: u64) {
-    word(b" ");
-    io::print_decimal(STDOUT_FILENO, n);
+pub fn number(streams: &mut Streams, n: u64) {
+    word(streams, b" ");
+    streams.decimal(n);
 }
 
 // A number in base 16, behind a blank.
-pub fn pattern(n: u64) {
-    word(b" ");
-    io::print_hex(STDOUT_FILENO, n, 1);
+pub fn pattern(streams: &mut Streams, n: u64) {
+    word(streams, b" ");
+    streams.hex(n);
 }
 
 fn wide(b: u8) -> u64 {
@@ -23,49 +24,49 @@ fn wide(b: u8) -> u64 {
 }
 
 // The bytes, each behind a blank, as two digits of base 16.
-pub fn bytes(s: &[u8]) {
+pub fn bytes(streams: &mut Streams, s: &[u8]) {
     let mut i = 0;
     while i < s.len() {
-        word(b" ");
-        io::print_hex(STDOUT_FILENO, wide(s[i]), 2);
+        word(streams, b" ");
+        streams.hex_byte(wide(s[i]));
         i += 1;
     }
 }
 
 // One of two words, and the end of the line.
-pub fn either(yes: bool, one: &[u8], other: &[u8]) {
+pub fn either(streams: &mut Streams, yes: bool, one: &[u8], other: &[u8]) {
     if yes {
-        word(one);
+        word(streams, one);
     } else {
-        word(other);
+        word(streams, other);
     }
-    word(b"\n");
+    word(streams, b"\n");
 }
 
 // The end of a line that asks: whether it is so.
-pub fn answer(yes: bool) {
-    either(yes, b": yes", b": no");
+pub fn answer(streams: &mut Streams, yes: bool) {
+    either(streams, yes, b": yes", b": no");
 }
 
-pub fn good(yes: bool) {
-    either(yes, b": good", b": not good");
+pub fn good(streams: &mut Streams, yes: bool) {
+    either(streams, yes, b": good", b": not good");
 }
 
 // The end of a line that asks for a number.
-pub fn result(n: u64) {
-    word(b":");
-    number(n);
-    word(b"\n");
+pub fn result(streams: &mut Streams, n: u64) {
+    word(streams, b":");
+    number(streams, n);
+    word(streams, b"\n");
 }
 
 // A line's fields, a blank between each two.
-pub fn echo(l: &[u8]) {
+pub fn echo(streams: &mut Streams, l: &[u8]) {
     let mut i = 0;
     while i < l.len() {
         let e = text::lines::find(l, i, b'\t');
-        word(le::cut(l, i, e - i));
+        word(streams, le::cut(l, i, e - i));
         if e < l.len() {
-            word(b" ");
+            word(streams, b" ");
         }
         i = e + 1;
     }
