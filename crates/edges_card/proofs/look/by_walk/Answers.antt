@@ -1,0 +1,7 @@
+-- `edges_card::look::by_walk` is safe and ends. Assumes nothing.
+use Rattle.std.proofs.Common.{rules}
+use Rattle.card.proofs.PlaceLaws.{fetch-room}
+use Rattle.edges_card.proofs.look.by_walk.Goals as goal
+
+pub read_u32-n-requires : goal.read_u32-n-requires
+read_u32-n-requires c = search (rules, fetch-room)

@@ -1,0 +1,6 @@
+-- `pieces::Play::end` meets its contract. Assumes nothing.
+use Rattle.pieces.proofs.StepLaws.{end_is}
+use Rattle.pieces.proofs.Play.end.Goals as goal
+
+pub returns : goal.returns
+returns c = end_is _ _ c.last-play.ensures
