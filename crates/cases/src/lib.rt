@@ -1,5 +1,6 @@
 // A program's cases, as lines of its input: a word, then numbers, words and bytes, a tab between each two.
 #![tactic(auto)]
+
 ghost use Rattle.std.specs.Prelude.{◌≡◌, ◌%◌, ◌^◌, ◌<◌, ◌≤◌, length};
 ghost use Rattle.text.specs.Decimal.{number_of};
 ghost use Rattle.text.specs.Lines.{field, fields};

@@ -1,5 +1,6 @@
 // What the benchmarks call from Rust: thin exports over the crates that they measure, and nothing that the host itself uses.
 #![tactic(auto)]
+
 ghost use Rattle.std.specs.Prelude.{◌≡◌, ◌*◌, ◌/◌, ◌≤◌, length};
 ghost use Rattle.text.specs.Utf8.{utf8};
 ghost use Rattle.gauge.specs.Fields.{field_sum};

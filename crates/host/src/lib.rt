@@ -1,6 +1,7 @@
 // The host: its state by value, checks 1 to 3, the one place where a call is accepted or refused, and begin, open, close and return. The other operations are
 // functions over this state, in crates of their own.
 #![tactic(auto)]
+
 pub mod begin;
 pub mod cursors;
 pub mod ending;

@@ -1,6 +1,7 @@
 // The C library: the host's state as plain numbers, and every operation under a C name, thin over the proved host.
 // include/loafheron.h says to a C program what stands here.
 #![tactic(auto)]
+
 mod answers;
 mod calls;
 mod crossing;

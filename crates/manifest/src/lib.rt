@@ -2,6 +2,7 @@
 //
 // A text is read once a call, to the places of its grants: nothing is copied, and each question is then a few comparisons.
 #![tactic(auto)]
+
 ghost use Rattle.std.specs.Prelude.{◌≡◌, ◌≤◌, ◌<◌, length, drop};
 ghost use Rattle.text.specs.Lines.{lines};
 ghost use Rattle.manifest.specs.Rights.{granted};

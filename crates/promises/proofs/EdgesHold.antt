@@ -3,7 +3,7 @@
 use mathlib.Core.Path.{◌≡◌, refl, sym, ap, subst, ◌∙◌}
 use mathlib.Core.Bool.{Bool, true, false, not, ◌&&◌, ◌||◌, cond, beq}
 use mathlib.Core.List.{List, [], ◌∷◌}
-use Prim.Native.Nat.{ℕ, zero, suc, ◌+◌, ◌-◌, ◌≤◌, ◌<◌}
+use Prim.Native.Nat.{ℕ, zero, suc, ◌-◌, ◌≤◌, ◌<◌}
 use native.Mathlib.Omega.{arith}
 use native.Mathlib.Nat.{not-suc-le-zero, le_of_suc-le-suc}
 use borrow.Author.Tests.{leb-true}
@@ -26,19 +26,14 @@ use Rattle.value.specs.Scalars.{canonical}
 use Rattle.value.specs.Values.{decoded, text_fault, value_fault}
 use Rattle.value.specs.Forms.{form_of, payload}
 use Rattle.manifest.specs.Charge.{charge_by}
-use Rattle.card.specs.Listing.{page_of}
-use Rattle.card.specs.declared.Page.TheVariants.{End, Short, Bytes}
 use Rattle.weave.specs.declared.Code.{Code}
 use Rattle.weave.specs.declared.Code.TheVariants.{Fine, Denied, NotNow, Unsound, NoRoom, Bad, Budget, BadValue}
 use Rattle.weave.specs.declared.Spoiled.TheVariants.{Not}
 use Rattle.weave.specs.Codes.{is_fine, first_by, need, reason_of, number}
-use Rattle.weave.specs.Args.{next_args}
-use Rattle.takes.specs.Pages.{page_bytes}
 use Rattle.host.specs.declared.Fate.TheVariants.{Discarded}
 use Rattle.host.specs.Ending.{return_check, why_not, fate_of, return_answer}
 use Rattle.promises.specs.Box.{World, Return, Ended, step}
 use Rattle.promises.specs.Outcome.{Returns}
-use Rattle.promises.specs.Turn.{list_left}
 use Rattle.promises.specs.Edges.{Case, total, stored, flags, span, float, topic, filter, kept, text, window, two_left, returned, costs, Holds, edges}
 use Rattle.promises.specs.Checks.{next_looks}
 use Rattle.promises.proofs.NextHolds.{look_says, next-says, two-left, window-none, limit-none}

@@ -1,6 +1,6 @@
 -- 02, A9: which entries a mount and a commit set, and how many a table has to have.
 -- Assumes nothing.
-use mathlib.Core.Path.{◌≡◌, refl, sym, ap, ◌∙◌}
+use mathlib.Core.Path.{◌≡◌}
 use mathlib.Core.Bool.{true, false}
 use mathlib.Core.List.{List, [], ◌∷◌}
 use Prim.Native.Nat.{ℕ, ◌+◌, ◌*◌, ◌/◌, ◌≤◌}
@@ -16,7 +16,6 @@ use Rattle.card.proofs.RecordsLaws.{no-records}
 use Rattle.card.proofs.PlaceLaws.{records-within}
 use Rattle.card.proofs.IndexLaws.{length-offsets}
 use Rattle.card.proofs.WalkLaws.{to-size, to-count}
-use Rattle.weave.specs.declared.Code.TheVariants.{Fine}
 use Rattle.weave.specs.Codes.{is_fine}
 use Rattle.host.specs.declared.Fate.TheVariants.{Committed}
 use Rattle.host.specs.Hosts.{Lent, card_count}

@@ -1,16 +1,15 @@
 -- 02, A9: over the whole life of a box whose mount was not refused the card is sound and its table fits it. No call changes that, and nothing is asked of what modules write.
 -- Assumes nothing.
-use mathlib.Core.Path.{◌≡◌, refl, sym, ap, subst, ◌∙◌}
-use mathlib.Core.Bool.{Bool, true, false, true≢false}
-use mathlib.Core.List.{List, [], ◌∷◌, ◌++◌}
-use Prim.Native.Nat.{ℕ, ◌+◌, ◌-◌, ◌≤◌}
+use mathlib.Core.Path.{◌≡◌, refl, ap, subst, ◌∙◌}
+use mathlib.Core.Bool.{Bool, true, false}
+use mathlib.Core.List.{List, [], ◌∷◌}
+use Prim.Native.Nat.{ℕ, ◌+◌}
 use native.Mathlib.Omega.{arith}
 use borrow.Author.Tests.{eqb-true, eq-eqb}
-use lib.Dec.{eqb}
 use lib.ListN.{length, take, length-take}
 use lib.Seq.{length-take-le}
 use Rattle.le.proofs.SpliceLaws.{length-splice}
-use Rattle.card.specs.Index.{entered, Fits}
+use Rattle.card.specs.Index.{entered}
 use Rattle.card.proofs.IndexLaws.{entered-fits, mount-fits}
 use Rattle.card.proofs.WalkLaws.{to-count, to-chain}
 use Rattle.weave.specs.declared.Code.TheVariants.{Fine}

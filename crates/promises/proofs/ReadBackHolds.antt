@@ -10,7 +10,6 @@ use lib.Dec.{leb}
 use lib.ListN.{length, take, get_or}
 use Rattle.le.specs.Splice.{splice}
 use Rattle.le.specs.Le.{Bytes}
-use Rattle.manifest.specs.Saying.{may_read}
 use Rattle.record.specs.Shown.{Framed}
 use Rattle.record.specs.Written.{Written}
 use Rattle.record.proofs.ShownLaws.{good-shown}
@@ -21,11 +20,9 @@ use Rattle.card.specs.Listing.{fit}
 use Rattle.card.proofs.PickLaws.{all-only}
 use Rattle.card.proofs.RecordsLaws.{records-good}
 use Rattle.card.proofs.WalkLaws.{to-count, record_of-is}
-use Rattle.card.proofs.ListingLaws.{listed_has}
 use Rattle.card.proofs.PageLaws.{size-fit}
 use Rattle.weave.specs.Codes.{is_fine}
 use Rattle.weave.specs.Findings.{plain, is_clear}
-use Rattle.weave.specs.Moves.{cursor_of}
 use Rattle.weave.specs.Args.{write_args, read_args, next_args}
 use Rattle.weave.proofs.CodeLaws.{found_left}
 use Rattle.takes.specs.Payloads.{payload_bytes}

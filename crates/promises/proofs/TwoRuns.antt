@@ -17,7 +17,6 @@ use Rattle.text.specs.Span.{inside}
 use Rattle.text.specs.Sizes.{total_len}
 use Rattle.value.specs.declared.Checked.{Checked}
 use Rattle.manifest.specs.Charge.{charge_by}
-use Rattle.manifest.specs.Rights.{granted}
 use Rattle.manifest.specs.Saying.{may_read}
 use Rattle.record.specs.Record.{id_of, topic_of}
 use Rattle.record.specs.Written.{Written}

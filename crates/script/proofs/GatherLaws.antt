@@ -3,10 +3,10 @@
 use mathlib.Core.Path.{◌≡◌, refl, ap, sym, ◌∙◌}
 use mathlib.Core.Bool.{true, false}
 use mathlib.Core.List.{List, [], ◌∷◌}
-use Prim.Native.Nat.{ℕ, suc, ◌+◌, ◌-◌, ◌≤◌, ◌<◌}
+use Prim.Native.Nat.{ℕ, ◌+◌, ◌-◌, ◌≤◌, ◌<◌}
 use native.Mathlib.Omega.{arith}
 use native.Mathlib.Nat.{add-zero, add-sub_cancel_left}
-use lib.Dec.{leb, ltb}
+use lib.Dec.{ltb}
 use lib.ListN.{length, drop, length-drop}
 use borrow.Author.Tests.{le-leb, lt-leb, lt-ltb, le-ltb, ltb-false}
 use Rattle.le.proofs.TestLaws.{Tested, tested, passes, fails}
@@ -15,7 +15,6 @@ use Rattle.le.proofs.SpliceLaws.{splice-nil}
 use Rattle.text.specs.Lines.{before}
 use Rattle.text.proofs.LinesLaws.{before-short, before-take}
 use Rattle.script.specs.Gathering.{more, held_with, gathered}
-use Rattle.script.specs.declared.gather.Gathered.{Gathered}
 
 pub held_same : (held n : ℕ) → n ≡ 0 → held ≡ held_with held n
 unfolding held_with

@@ -1,5 +1,6 @@
 // The script of a rehearsal: its lines as they are read, and as they are printed.
 #![tactic(auto)]
+
 pub mod events;
 pub mod forms;
 pub mod gather;

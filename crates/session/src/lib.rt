@@ -1,5 +1,6 @@
 // A rehearsal, as document 01 has it, line by line: a session by value beside lent buffers; one line in, its lines out.
 #![tactic(auto)]
+
 pub mod calls;
 pub mod fates;
 pub mod listing;

@@ -1,5 +1,6 @@
 // Texts, spans, sizes and flags: what documents 01 and 02 say of bytes before they say what they are for.
 #![tactic(auto)]
+
 pub mod compare;
 pub mod decimal;
 pub mod flags;

@@ -1,6 +1,7 @@
 // A Filament value: what its 32 bytes say, its check, its stored form, and its pointer when it is handed out.
 // The crates above know four things of it: the payload that is stored, the fault for which there is none, the test of a stored payload, and the payload as shown.
 #![tactic(auto)]
+
 pub mod cell;
 pub mod check;
 pub mod decode;

@@ -1,5 +1,6 @@
 // One weave: its state by value, each kind of change to it, the arguments of a call, and each check that speaks of these.
 #![tactic(auto)]
+
 pub mod args;
 pub mod charges;
 pub mod checks;

@@ -1,6 +1,5 @@
 -- The answers for `cases::bytes`.
 use native.Mathlib.Omega.{arith}
-use Prim.Native.Nat.{◌-◌}
 use lib.ListN.{length-set}
 use Rattle.cases.proofs.bytes.Goals as goal
 

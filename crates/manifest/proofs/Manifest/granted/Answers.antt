@@ -1,9 +1,8 @@
 -- The answers for `manifest::Manifest::granted`.
-use mathlib.Core.Path.{◌≡◌, refl, sym, ◌∙◌}
-use Prim.Native.Nat.{◌-◌}
+use mathlib.Core.Path.{◌≡◌, refl}
 use borrow.Author.Rules.{rules}
 use native.Mathlib.Omega.{arith}
-use lib.ListN.{length, length-map}
+use lib.ListN.{length}
 use Rattle.manifest.proofs.AskingLaws.{asking-core, asking-start, asking-past, asking-end, asking-yes, asking-no}
 use Rattle.manifest.proofs.Manifest.granted.Goals as goal
 

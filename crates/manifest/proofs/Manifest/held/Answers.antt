@@ -1,8 +1,7 @@
 -- The answers for `manifest::Manifest::held`.
-use mathlib.Core.Path.{◌≡◌, refl, sym, ◌∙◌}
-use Prim.Native.Nat.{◌-◌}
+use mathlib.Core.Path.{◌≡◌, refl, ◌∙◌}
 use native.Mathlib.Omega.{arith}
-use lib.ListN.{length, length-map, length-set}
+use lib.ListN.{length, length-set}
 use Rattle.manifest.proofs.HeldLaws.{holding-start, holding-end, holding-past, holding-no, holding-yes}
 use Rattle.manifest.proofs.Manifest.held.Goals as goal
 use Rattle.manifest.proofs.Manifest.held.Goals.{then-reads, else-reads}
@@ -39,8 +38,8 @@ overflow_add-k c = omega (arith, c.loop-i.invariant.twice, c.loop-i.invariant.ro
 pub loop-i-preserved : goal.loop-i-preserved
 loop-i-preserved c =
     elim c.if-reads.branch [
-      then-reads w ↦ holding-yes c.loop-i.invariant c.loop-i-test.true c.if-i-ge-GRANTS.false _ c.reads.ensures w.if-reads.true _ _ refl refl _ (omega arith) w.places-is (w.k-is ∙ omega arith)
-    | else-reads w ↦ holding-no c.loop-i.invariant c.loop-i-test.true c.if-i-ge-GRANTS.false _ c.reads.ensures w.if-reads.false w.places-is w.k-is
+      | then-reads w ↦ holding-yes c.loop-i.invariant c.loop-i-test.true c.if-i-ge-GRANTS.false _ c.reads.ensures w.if-reads.true _ _ refl refl _ (omega arith) w.places-is (w.k-is ∙ omega arith)
+      | else-reads w ↦ holding-no c.loop-i.invariant c.loop-i-test.true c.if-i-ge-GRANTS.false _ c.reads.ensures w.if-reads.false w.places-is w.k-is
     ]
 
 pub shape_of-places : goal.shape_of-places

@@ -1,5 +1,4 @@
 -- The answers for `manifest::Manifest::read_grants`.
-use Prim.Native.Nat.{◌-◌}
 use native.Mathlib.Omega.{arith}
 use borrow.Author.Rules.{rules}
 use Rattle.manifest.proofs.ReadingLaws.{reading-start, reading-full, reading-bad, reading-more, reading-done}

@@ -1,6 +1,6 @@
 -- The answers for `manifest::held::stands_at`.
 use mathlib.Core.Path.{refl}
-use Prim.Native.Nat.{suc, ◌-◌}
+use Prim.Native.Nat.{suc}
 use native.Mathlib.Omega.{arith}
 use Rattle.manifest.proofs.HeldLaws.{asked-start, asked-end, asked-yes, asked-no}
 use Rattle.manifest.proofs.held.stands_at.Goals as goal

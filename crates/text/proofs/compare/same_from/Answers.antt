@@ -1,6 +1,5 @@
 -- The answers for `text::compare::same_from`.
 use mathlib.Core.Path.{refl}
-use Prim.Native.Nat.{◌-◌}
 use native.Mathlib.Omega.{arith}
 use Rattle.text.proofs.CompareLaws.{prefix-turn, prefix-bad, prefix-end}
 use Rattle.text.proofs.compare.same_from.Goals as goal

@@ -1,6 +1,5 @@
 -- The answers for `text::compare::starts_with`.
 use mathlib.Core.Path.{refl, sym, ◌∙◌}
-use Prim.Native.Nat.{◌-◌}
 use native.Mathlib.Omega.{arith}
 use Rattle.text.proofs.CompareLaws.{prefix_same, prefix-differs, prefix-short}
 use Rattle.text.proofs.compare.starts_with.Goals as goal
@@ -44,7 +43,7 @@ returns c =
     let l = c.loop-i in
     c.same_from.ensures
     ∙ elim c.if-filter-i-ge4.branch [
-      then-filter-i-ge4+else-read_u32 w ↦ rw w.i-is (prefix_same 4 a.filter.now a.topic.now l.i _ c.type_inv.filter c.type_inv.topic (omega arith) (omega arith)
+      | then-filter-i-ge4+else-read_u32 w ↦ rw w.i-is (prefix_same 4 a.filter.now a.topic.now l.i _ c.type_inv.filter c.type_inv.topic (omega arith) (omega arith)
           (sym w.read_u32.ensures ∙ w.if-read_u32.false ∙ w.read_u32-then-filter-i-ge4.ensures) l.invariant.1)
-    | else-filter-i-ge4 w ↦ rw w.i-is l.invariant.1
+      | else-filter-i-ge4 w ↦ rw w.i-is l.invariant.1
     ]

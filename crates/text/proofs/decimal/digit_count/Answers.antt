@@ -1,5 +1,4 @@
 -- The answers for `text::decimal::digit_count`.
-use Prim.Native.Nat.{◌-◌}
 use native.Mathlib.Omega.{arith}
 use Rattle.text.proofs.DigitLaws.{count-few, count_turn, count-all}
 use Rattle.text.proofs.decimal.digit_count.Goals as goal

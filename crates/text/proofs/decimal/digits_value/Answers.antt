@@ -1,6 +1,5 @@
 -- The answers for `text::decimal::digits_value`.
 use mathlib.Core.Path.{refl}
-use Prim.Native.Nat.{◌-◌}
 use native.Mathlib.Omega.{arith}
 use Rattle.text.proofs.DecimalLaws.{number-low, number-high, number-over, number-turn, number-end}
 use Rattle.text.proofs.decimal.digits_value.Goals as goal

@@ -1,6 +1,6 @@
 -- `text::decimal::put_digits` meets its contract: what is left to write, written over what there is, gives the result. Assumes nothing.
 use mathlib.Core.Path.{◌≡◌}
-use Prim.Native.Nat.{◌≤◌, ◌-◌}
+use Prim.Native.Nat.{◌≤◌}
 use lib.ListN.{length}
 use Rattle.le.specs.Splice.{splice}
 use Rattle.text.specs.Decimal.{digits_in}

@@ -1,6 +1,5 @@
 -- The answers for `text::lines::find`.
 use mathlib.Core.Path.{refl}
-use Prim.Native.Nat.{◌-◌}
 use native.Mathlib.Omega.{arith}
 use Rattle.text.proofs.LinesLaws.{before-turn, before_here, before-end}
 use Rattle.text.proofs.lines.find.Goals as goal

@@ -1,6 +1,5 @@
 -- The answers for `text::topic::no_control`.
 use mathlib.Core.Path.{refl, sym, ◌∙◌}
-use Prim.Native.Nat.{◌-◌}
 use native.Mathlib.Omega.{arith}
 use Rattle.text.proofs.TopicLaws.{control-turn, control-bad, control-end}
 use Rattle.text.proofs.topic.no_control.Goals as goal

@@ -1,6 +1,6 @@
 -- The answers for `text::topic::plain_bytes`.
 use mathlib.Core.Path.{refl}
-use Prim.Native.Nat.{◌+◌, ◌-◌, ◌≤◌, ◌<◌}
+use Prim.Native.Nat.{◌+◌, ◌≤◌, ◌<◌}
 use native.Mathlib.Omega.{arith}
 use lib.ListN.{length, get_or}
 use Rattle.text.proofs.Utf8Laws.{ascii-passed}
@@ -18,15 +18,15 @@ loop-i-init c =
     let a = c.args in
     let s = a.s.now in
     elim c.if-s-i-ge4.branch [
-      then-s-i-ge4+then-plain w ↦
-        let l : a.from + 4 ≤ length s = omega arith in
-        let p = w.plain.ensures w.if-plain.true in
-        rw w.i-is (
-          l,
-          utf8-plain 4 s a.from _ l b (omega arith) _ 0x20202020 (omega (arith, w.read_u32.ensures)) p refl,
-          λ rule. control-plain 4 s a.from _ l b (omega arith) _ 0x20202020 (omega (arith, w.read_u32.ensures)) p rule refl,
-        )
-    | else-s-i-ge4 w ↦ rw w.i-is (omega arith, refl, λ rule. refl)
+      | then-s-i-ge4+then-plain w ↦
+          let l : a.from + 4 ≤ length s = omega arith in
+          let p = w.plain.ensures w.if-plain.true in
+          rw w.i-is (
+            l,
+            utf8-plain 4 s a.from _ l b (omega arith) _ 0x20202020 (omega (arith, w.read_u32.ensures)) p refl,
+            λ rule. control-plain 4 s a.from _ l b (omega arith) _ 0x20202020 (omega (arith, w.read_u32.ensures)) p rule refl,
+          )
+      | else-s-i-ge4 w ↦ rw w.i-is (omega arith, refl, λ rule. refl)
     ]
 
 pub returns-then-b-lt32 : goal.returns-then-b-lt32

@@ -1,6 +1,5 @@
 -- The answers for `text::topic::plain_front`.
 use mathlib.Core.Path.{refl}
-use Prim.Native.Nat.{◌-◌}
 use native.Mathlib.Omega.{arith}
 use Rattle.text.proofs.PlainLaws.{utf8-plain, control-plain}
 use Rattle.text.proofs.topic.plain_front.Goals as goal

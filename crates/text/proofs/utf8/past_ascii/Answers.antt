@@ -1,6 +1,5 @@
 -- The answers for `text::utf8::past_ascii`.
 use mathlib.Core.Path.{◌≡◌, refl}
-use Prim.Native.Nat.{◌-◌}
 use native.Mathlib.Omega.{arith}
 use lib.Bits.{bit_and}
 use Rattle.text.proofs.PlainLaws.{utf8-eight}

@@ -1,6 +1,5 @@
 -- The answers for `text::utf8::valid`.
 use mathlib.Core.Path.{sym, ◌∙◌}
-use Prim.Native.Nat.{◌-◌}
 use native.Mathlib.Omega.{arith}
 use Rattle.text.proofs.Utf8Laws.{ascii-passed, cut_short, not-followed, followed, utf8-end}
 use Rattle.text.proofs.utf8.valid.Goals as goal

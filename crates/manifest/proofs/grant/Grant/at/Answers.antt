@@ -36,8 +36,8 @@ holder_in-holder-requires c = record { number_value = number_is c; way_value = (
 short : (c : After-row_known-1) → c.if-holder-eq0.len ≤ length c.args.line.now
 short c =
     elim c.if-holder-eq0.branch [
-      then-holder-eq0 w ↦ omega (arith, w.field-then-holder-eq0.ensures.1, c.behind-topic.ensures.1)
-    | else-holder-eq0 w ↦ omega (arith, c.behind-topic.ensures.1)
+      | then-holder-eq0 w ↦ omega (arith, w.field-then-holder-eq0.ensures.1, c.behind-topic.ensures.1)
+      | else-holder-eq0 w ↦ omega (arith, c.behind-topic.ensures.1)
     ]
 
 pub overflow_sub-result : goal.overflow_sub-result
@@ -58,7 +58,7 @@ returns c =
     let f = (goal.at.returns c).After-field in
     let e = c.holder_in-holder.ensures in
     let len : c.if-holder-eq0.len ≡ length (field 3 c.args.line.now) = elim c.if-holder-eq0.branch [
-      then-holder-eq0 w ↦ w.len-is ∙ ap length (field-there 3 _ _ (topic-is f) _ w.field-then-holder-eq0.ensures.0)
-    | else-holder-eq0 w ↦ w.len-is ∙ ap length (topic-is f ∙ grant-rest (line f) c.args.modules _ e w.if-holder-eq0.false)
+      | then-holder-eq0 w ↦ w.len-is ∙ ap length (field-there 3 _ _ (topic-is f) _ w.field-then-holder-eq0.ensures.0)
+      | else-holder-eq0 w ↦ w.len-is ∙ ap length (topic-is f ∙ grant-rest (line f) c.args.modules _ e w.if-holder-eq0.false)
     ] in
     grant-is (line f) _ (way-is f) _ len c.args.modules c.args.end _ e _ c.same-out.ensures
