@@ -283,7 +283,7 @@ pub record ReturnOnce : Type 0 where
 pub return-once : ReturnOnce
 return-once = search met
 
--- ---- mount and look_up
+-- ---- mount and look-up
 
 pub record MountsOnce : Type 0 where
   pub mount : ResultOnce mounts.mount.mount.Kinds.ps mounts.mount.mount.Kinds.r mounts.mount.mount.Reads.Learnt

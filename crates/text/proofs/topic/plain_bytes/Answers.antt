@@ -29,21 +29,12 @@ loop-i-init c =
       | else-s-i-ge4 w ↦ rw w.i-is (omega arith, refl, λ rule. refl)
     ]
 
-pub returns-then-b-lt32 : goal.returns-then-b-lt32
-returns-then-b-lt32 c = c.loop-i.invariant
-
-pub returns-then-b-gt126 : goal.returns-then-b-gt126
-returns-then-b-gt126 c = c.loop-i.invariant
-
 pub loop-i-preserved : goal.loop-i-preserved
 loop-i-preserved c =
     let s = c.args.s.now in
     let l = c.loop-i in
     let h : l.i < length s = omega arith in (
       omega arith,
-      ascii-passed s l.i _ h l.invariant.1 (omega (arith, c.if-b-gt126.false)),
-      λ rule. control-turn rule s l.i _ h (plain-stands rule (get_or s l.i 0) (c.if-b-lt32.false, c.if-b-gt126.false)) (l.invariant.2 rule),
+      ascii-passed s l.i _ h l.invariant.1 (omega arith),
+      λ rule. control-turn rule s l.i _ h (plain-stands rule (get_or s l.i 0) (omega arith, omega arith)) (l.invariant.2 rule),
     )
-
-pub returns : goal.returns
-returns c = c.loop-i.invariant
