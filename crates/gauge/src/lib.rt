@@ -21,8 +21,8 @@ fn sum_pairs(s: &[u8], n: usize) -> u64
     let mut at: usize = 0;
     let mut left = n;
     while 0 < left {
-        let short = le::read_u32(s, at) as u64;
-        let long = le::read_u64(s, at + 4);
+        let short = le::get::<u32>(s, at) as u64;
+        let long = le::get::<u64>(s, at + 4);
         sum = std::num::wrapping_add_u64(std::num::wrapping_add_u64(sum, short), long);
         at += 12;
         left -= 1;

@@ -26,6 +26,10 @@ le_at-lt (suc w) s at h =
 pub le_at-below : (n w : ℕ) (s : List ℕ) (at : ℕ) → Bytes s → w ≤ n → le_at w s at < 256 ^ n
 le_at-below n w s at h l = lt_of_lt_of_le (le_at-lt w s at h) (pow-le-pow_right (lit< tt) l)
 
+-- 0 is
+pub zero-fits : (w : ℕ) → 0 < 256 ^ w
+zero-fits w = let l : 0 ≤ w = omega arith in pow-le-pow_right (lit< tt) l
+
 -- one byte more, in its place above the others
 le_at-next : (w : ℕ) (s : List ℕ) (at : ℕ) → le_at (suc w) s at ≡ le_at w s at + get_or s (at + w) 0 * 2 ^ (8 * w)
 unfolding le_at

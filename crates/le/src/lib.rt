@@ -1,7 +1,8 @@
 // Numbers in bytes, and runs of bytes in lent buffers: what every other crate reads and writes with.
 #![tactic(auto)]
 
-ghost use Rattle.std.specs.Prelude.{◌≡◌, ◌+◌, ◌-◌, ◌≤◌, length, take, drop};
+ghost use Rattle.std.specs.Prelude.{◌≡◌, ℕ, ◌+◌, ◌-◌, ◌^◌, ◌<◌, ◌≤◌, length, take, drop};
+ghost use Rattle.std.proofs.Common.{rules};
 ghost use Rattle.le.specs.Le.{le_at, le_bytes};
 ghost use Rattle.le.specs.Splice.{splice, zeros, part, all_zero};
 
@@ -119,6 +120,103 @@ pub fn put_u64(s: &mut [u8], at: usize, v: u64)
     ensures { s.new ≡ splice s.old at (le_bytes 8 v) }
 {
     put_le(s, at, 8, v);
+}
+
+// What may stand in bytes: a number by its width, of one value each. Reading and writing are proved once for all of them.
+pub trait Number: Copy {
+    const WIDTH: usize;
+
+    ghost WIDTH: { ℕ };
+
+    ghost value: { Self → ℕ };
+
+    // The number with a value that its bytes have room for.
+    fn narrowed(n: u64) -> Self
+        requires { n < 256 ^ WIDTH }
+        ensures { value result ≡ n };
+
+    fn widened(self) -> u64
+        ensures { result ≡ value self };
+
+    ghost short: { WIDTH ≤ 8 };
+
+    ghost distinct: { (m n : Self) → value m ≡ value n → m ≡ n };
+}
+
+impl Number for u8 {
+    const WIDTH: usize = 1;
+
+    ghost WIDTH = { 1 };
+
+    ghost value = { λ n. n };
+
+    ghost short = { Prim.search rules };
+
+    ghost distinct = { λ m n e. e };
+
+    fn narrowed(n: u64) -> u8 {
+        n as u8
+    }
+
+    fn widened(self) -> u64 {
+        u64::from(self)
+    }
+}
+
+impl Number for u32 {
+    const WIDTH: usize = 4;
+
+    ghost WIDTH = { 4 };
+
+    ghost value = { λ n. n };
+
+    ghost short = { Prim.search rules };
+
+    ghost distinct = { λ m n e. e };
+
+    fn narrowed(n: u64) -> u32 {
+        n as u32
+    }
+
+    fn widened(self) -> u64 {
+        u64::from(self)
+    }
+}
+
+impl Number for u64 {
+    const WIDTH: usize = 8;
+
+    ghost WIDTH = { 8 };
+
+    ghost value = { λ n. n };
+
+    ghost short = { Prim.search rules };
+
+    ghost distinct = { λ m n e. e };
+
+    fn narrowed(n: u64) -> u64 {
+        n
+    }
+
+    fn widened(self) -> u64 {
+        self
+    }
+}
+
+// The number that stands at `at`.
+pub fn get<N: Number>(s: &[u8], at: usize) -> N
+    requires { at + N.WIDTH ≤ length s.now }
+    ensures { N.value result ≡ le_at N.WIDTH s.now at }
+{
+    N::narrowed(read_le(s, at, N::WIDTH))
+}
+
+// It is written at `at`.
+pub fn put<N: Number>(s: &mut [u8], at: usize, n: N)
+    requires { at + N.WIDTH ≤ length s.old }
+    ensures { s.new ≡ splice s.old at (le_bytes N.WIDTH (N.value n)) }
+{
+    put_le(s, at, N::WIDTH, n.widened());
 }
 
 // ---- runs of bytes

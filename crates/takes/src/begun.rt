@@ -10,7 +10,7 @@ fn arg_at(args: &[u8], off: usize) -> u64
     ensures { result ≡ arg_at args.now off }
 {
     if args.len() == Weave::ARGS {
-        return le::read_u64(args, off);
+        return le::get::<u64>(args, off);
     }
     0
 }

@@ -10,8 +10,8 @@ pub fn show_value(buf: &mut [u8], at: usize, address: u64)
     requires address_bound { address + 32 < 2 ^ 64 }
     ensures { buf.new ≡ shown_at address at buf.old }
 {
-    let t = le::read_u32(buf, at);
+    let t = le::get::<u32>(buf, at);
     if (t == 5) | (t == 9) {
-        le::put_u64(buf, at + 8, address + Value::SIZE);
+        le::put::<u64>(buf, at + 8, address + Value::SIZE);
     }
 }

@@ -2,6 +2,7 @@
 ghost use Rattle.std.specs.Prelude.{◌≡◌, ◌+◌, ◌≤◌};
 ghost use Rattle.weave.specs.Args.{record_fine, field_at, write_args, read_args, open_args, next_args, close_handle, bytes_at, topic_fine, filter_fine, out_fine, data_fine, len_fine, filter_bytes};
 
+use le::Number;
 use record::EventId;
 use text::limits::Limits;
 use value::{Span, Value};
@@ -44,35 +45,14 @@ pub fn record_fine(m: &[u8], a: u64, n: u64) -> bool
 }
 
 // A field of the argument record of n bytes at a, 0 where there is no such record. (So every check can be made, whether or not an earlier one failed.)
-fn field(m: &[u8], a: u64, n: u64, off: u64) -> u64
-    requires { off + 8 ≤ n }
-    ensures { result ≡ field_at 8 m.now a n off }
+fn field<N: Number>(m: &[u8], a: u64, n: u64, off: u64) -> N
+    requires { off + N.WIDTH ≤ n }
+    ensures { N.value result ≡ field_at N.WIDTH m.now a n off }
 {
     if record_fine(m, a, n) {
-        return le::read_u64(m, (a + off) as usize);
+        return le::get(m, (a + off) as usize);
     }
-    0
-}
-
-fn field_u32(m: &[u8], a: u64, n: u64, off: u64) -> u32
-    requires { off + 4 ≤ n }
-    ensures { result ≡ field_at 4 m.now a n off }
-{
-    if record_fine(m, a, n) {
-        return le::read_u32(m, (a + off) as usize);
-    }
-    0
-}
-
-fn field_u8(m: &[u8], a: u64, n: u64, off: u64) -> u8
-    requires { off + 1 ≤ n }
-    ensures { result ≡ field_at 1 m.now a n off }
-{
-    if record_fine(m, a, n) {
-        let i = (a + off) as usize;
-        return m[i];
-    }
-    0
+    N::narrowed(0)
 }
 
 impl WriteArgs {
@@ -97,7 +77,7 @@ impl WriteArgs {
             },
             place: field(m, a, WriteArgs::SIZE, WriteArgs::DATA),
             len: field(m, a, WriteArgs::SIZE, WriteArgs::LEN),
-            flags: field_u32(m, a, WriteArgs::SIZE, WriteArgs::FLAGS),
+            flags: field(m, a, WriteArgs::SIZE, WriteArgs::FLAGS),
         }
     }
 }
@@ -144,7 +124,7 @@ impl OpenArgs {
             from: EventId(field(m, a, OpenArgs::SIZE, 16)),
             to: EventId(field(m, a, OpenArgs::SIZE, 24)),
             limit: field(m, a, OpenArgs::SIZE, 32),
-            desc: field_u8(m, a, OpenArgs::SIZE, OpenArgs::DESC),
+            desc: field(m, a, OpenArgs::SIZE, OpenArgs::DESC),
         }
     }
 }

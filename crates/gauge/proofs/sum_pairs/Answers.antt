@@ -21,8 +21,8 @@ loop-left-preserved c =
           _
           _
           (omega arith)
-          c.read_u32-short.ensures
-          c.read_u64-long.ensures
+          c.get-short.ensures
+          c.get-long.ensures
           c.wrapping_add_u64.ensures.value
           c.wrapping_add_u64-sum.ensures.value
           l.invariant.1,

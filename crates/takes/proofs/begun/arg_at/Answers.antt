@@ -5,7 +5,7 @@ use Rattle.takes.proofs.begun.arg_at.Goals as goal
 
 pub returns-then-args-eq-ARGS : goal.returns-then-args-eq-ARGS
 unfolding arg_at
-returns-then-args-eq-ARGS c = simp (eq-eqb _ _ c.if-args-eq-ARGS.true) c.read_u64.ensures
+returns-then-args-eq-ARGS c = simp (eq-eqb _ _ c.if-args-eq-ARGS.true) c.get.ensures
 
 pub returns : goal.returns
 unfolding arg_at

@@ -4,4 +4,4 @@ use Rattle.value.proofs.cell.put_cell.Goals as goal
 
 pub returns : goal.returns
 returns c =
-    cell-written _ _ _ _ _ _ _ _ c.put_u32.ensures c.put_u32-2.ensures c.put_u64.ensures c.put_u64-2.ensures c.zero_range.ensures
+    cell-written _ _ _ _ _ _ _ _ c.put.ensures c.put-2.ensures c.put-3.ensures c.put-4.ensures c.zero_range.ensures

@@ -6,7 +6,7 @@ use Rattle.value.proofs.shown.show_value.Goals as goal
 
 pub returns-then-t : goal.returns-then-t
 returns-then-t c =
-    c.put_u64.ensures ∙ sym (shown-moved _ _ _ (ap pointed (sym c.read_u32-t.ensures) ∙ c.if-t.true))
+    c.put.ensures ∙ sym (shown-moved _ _ _ (ap pointed (sym c.get-t.ensures) ∙ c.if-t.true))
 
 pub returns-else-t : goal.returns-else-t
-returns-else-t c = sym (shown-plain _ _ _ (ap pointed (sym c.read_u32-t.ensures) ∙ c.if-t.false))
+returns-else-t c = sym (shown-plain _ _ _ (ap pointed (sym c.get-t.ensures) ∙ c.if-t.false))

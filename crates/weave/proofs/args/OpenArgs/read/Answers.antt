@@ -5,4 +5,4 @@ use Rattle.weave.proofs.args.OpenArgs.read.Goals as goal
 pub returns : goal.returns
 unfolding open_args
 returns c =
-    simp (c.field.ensures, c.field-2.ensures, c.field-3.ensures, c.field-4.ensures, c.field-5.ensures, c.field_u8.ensures)
+    simp (c.field.ensures, c.field-2.ensures, c.field-3.ensures, c.field-4.ensures, c.field-5.ensures, c.field-6.ensures)

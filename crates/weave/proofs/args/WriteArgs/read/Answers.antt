@@ -5,4 +5,4 @@ use Rattle.weave.proofs.args.WriteArgs.read.Goals as goal
 pub returns : goal.returns
 unfolding write_args
 returns c =
-    simp (c.field.ensures, c.field-2.ensures, c.field-3.ensures, c.field-4.ensures, c.field_u32.ensures)
+    simp (c.field.ensures, c.field-2.ensures, c.field-3.ensures, c.field-4.ensures, c.field-5.ensures)
