@@ -10,13 +10,8 @@ impl Fate {
         ensures { result ≡ fate_number self }
     {
         match self {
-            Fate::Refused(c) => c.number(),
-            Fate::Discarded(c) => c.number(),
-            Fate::Running => 0,
-            Fate::Committed {
-                events: e,
-                bytes: b,
-            } => 0,
+            Fate::Refused(c) | Fate::Discarded(c) => c.number(),
+            Fate::Running | Fate::Committed { .. } => 0,
         }
     }
 
@@ -25,13 +20,8 @@ impl Fate {
         ensures { result ≡ fate_events self }
     {
         match self {
-            Fate::Refused(c) => 0,
-            Fate::Discarded(c) => 0,
-            Fate::Running => 0,
-            Fate::Committed {
-                events: e,
-                bytes: b,
-            } => e,
+            Fate::Committed { events, .. } => events,
+            _ => 0,
         }
     }
 
@@ -40,13 +30,8 @@ impl Fate {
         ensures { result ≡ fate_bytes self }
     {
         match self {
-            Fate::Refused(c) => 0,
-            Fate::Discarded(c) => 0,
-            Fate::Running => 0,
-            Fate::Committed {
-                events: e,
-                bytes: b,
-            } => b,
+            Fate::Committed { bytes, .. } => bytes,
+            _ => 0,
         }
     }
 
@@ -54,14 +39,6 @@ impl Fate {
     pub fn ends(self) -> bool
         ensures { result ≡ ends self }
     {
-        match self {
-            Fate::Refused(c) => false,
-            Fate::Discarded(c) => true,
-            Fate::Running => false,
-            Fate::Committed {
-                events: e,
-                bytes: b,
-            } => true,
-        }
+        matches!(self, Fate::Discarded(_) | Fate::Committed { .. })
     }
 }

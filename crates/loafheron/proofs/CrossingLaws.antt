@@ -1,22 +1,21 @@
--- What crossing needs: a mark comes back, and four rooms are four slots.
+-- What crossing needs: a mark comes back, a flag is its byte, and rooms are slots.
 -- Assumes nothing.
-use mathlib.Core.Path.{◌≡◌, refl, ap, ◌∙◌}
+use mathlib.Core.Path.{◌≡◌, refl, ap, ap₂, ◌∙◌}
+use Prim.Native.Nat.{ℕ, suc, ◌<◌}
 use native.Mathlib.Omega.{arith}
-use mathlib.Core.Bool.{false}
+use mathlib.Core.Bool.{Bool, true, false}
 use mathlib.Core.List.{List, [], ◌∷◌, map}
 use borrow.Author.Tests.{ne_eqb}
 use lib.IntN.{ℤ, pos, negsuc}
 use lib.ListN.{length, get_or}
 use mir.Syntax.{w64}
-use mir.Val.{to_z, of_z}
+use mir.Val.{to_z, of_z, bool_byte}
 use Rattle.weave.specs.declared.Code.{Code}
 use Rattle.weave.specs.declared.Mark.{Mark}
 use Rattle.weave.specs.declared.Spoiled.TheVariants.{Panicked}
-use Rattle.weave.specs.declared.Slot.{Slot}
-use Rattle.loafheron.specs.declared.Room.{Room}
 use Rattle.weave.specs.Codes.{number, spoiled_code}
 use Rattle.host.proofs.EndingLaws.{number-back}
-use Rattle.loafheron.specs.Crossing.{mark_of, mark_said}
+use Rattle.loafheron.specs.Crossing.{flag, mark_of, mark_said}
 
 -- a number that is some code's crosses as it is
 pub crosses : (z : ℤ) (c : Code) → z ≡ number c → to_z w64 (of_z w64 z) ≡ number c
@@ -33,18 +32,17 @@ pub mark-crosses : (z : ℤ) (m : Mark) → z ≡ mark_of m → to_z w64 (of_z w
 unfolding mark_of
 mark-crosses z m e = crosses z (spoiled_code m) e
 
--- each of the four places of a table, taken by itself
-pub four : {A : Type 0} {B : Type 0} (f : A → B) (d : A) (xs : List A) → length xs ≡ 4 → f (get_or xs 0 d) ∷ f (get_or xs 1 d) ∷ f (get_or xs 2 d) ∷ f (get_or xs 3 d) ∷ [] ≡ map f xs
-four f d [] h = absurd (omega (arith, h))
-four f d (a ∷ []) h = absurd (omega (arith, h))
-four f d (a ∷ b ∷ []) h = absurd (omega (arith, h))
-four f d (a ∷ b ∷ c ∷ []) h = absurd (omega (arith, h))
-four f d (a ∷ b ∷ c ∷ e ∷ []) h = refl
-four f d (a ∷ b ∷ c ∷ e ∷ g ∷ xs) h = absurd (omega (arith, h))
+-- a flag is its byte
+pub flag-byte : (t : Bool) → bool_byte t ≡ flag t
+unfolding flag
+flag-byte true = refl
+flag-byte false = refl
 
--- what a table has past its end
-abbrev pub past_slots : Slot
-past_slots = record { handle = 0; cursor = record { filter = []; size = 0; from = record { 0 = 0 }; to = record { 0 = 0 }; limit = 0; desc = false } }
-
-abbrev pub past_rooms : Room
-past_rooms = record { handle = 0; from = 0; to = 0; limit = 0; desc = 0; size = 0; filter = [] }
+-- a table whose every place is what f makes of that place
+pub mapped : {A : Type 0} {B : Type 0} (f : A → B) (xs : List A) (ys : List B) → length ys ≡ length xs
+    → ((i : ℕ) (d : A) (e : B) → i < length xs → get_or ys i e ≡ f (get_or xs i d)) → ys ≡ map f xs
+mapped f [] [] h at = refl
+mapped f [] (y ∷ ys) h at = absurd (omega (arith, h))
+mapped f (x ∷ xs) [] h at = absurd (omega (arith, h))
+mapped f (x ∷ xs) (y ∷ ys) h at =
+    ap₂ (λ (b : _) (bs : _). b ∷ bs) (at 0 x y (omega arith)) (mapped f xs ys (omega (arith, h)) (λ i d e l. at (suc i) d e (omega (arith, l))))

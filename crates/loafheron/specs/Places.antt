@@ -1,21 +1,22 @@
 -- A place in numbers, as a C program has it.
 -- Assumes nothing.
-use Rattle.std.specs.Prelude.{cond, List, [], ℕ, eqb}
+use Rattle.std.specs.Prelude.{cond, List, [], ℕ, eqb, Option, Some, None}
 use Rattle.le.specs.Splice.{part}
 use Rattle.host.specs.Hosts.{Lent}
 use Rattle.mounts.specs.declared.Side.{Side}
-use Rattle.mounts.specs.declared.Side.TheVariants.{Nowhere, Card, Staging}
+use Rattle.mounts.specs.declared.Side.TheVariants.{Card, Staging}
 use Rattle.mounts.specs.declared.Place.{Place as Lying}
 use Rattle.loafheron.specs.declared.Place.{Place}
 
--- 1 is the card, 2 the staging, 0 neither
+-- 1 is the card, 2 the staging
 abbrev pub side_number : Side → ℕ
-side_number Nowhere = 0
 side_number Card = 1
 side_number Staging = 2
 
-unfoldable pub place_said : Lying → Place
-place_said p = record { buffer = side_number p.side; at = p.at; len = p.len }
+-- 0 is neither
+unfoldable pub place_said : Option Lying → Place
+place_said (Some p) = record { buffer = side_number p.side; at = p.at; len = p.len }
+place_said None = record { buffer = 0; at = 0; len = 0 }
 
 -- what a caller finds there: "that part of the card or of the staging buffer which is the record"
 unfoldable pub buffer_of : ℕ → Lent → List ℕ

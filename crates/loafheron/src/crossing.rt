@@ -1,17 +1,11 @@
 // How the state crosses: each field as a number.
 ghost use Rattle.std.specs.Prelude.{◌≡◌};
-ghost use Rattle.loafheron.specs.Crossing.{flag, flag_said, mark_of, mark_said, room_of, slot_said, rooms_of, slots_said};
+ghost use Rattle.loafheron.specs.Crossing.{flag_said, mark_of, mark_said, room_of, slot_said, rooms_of, slots_said};
 
 use crate::Room;
 use card::Cursor;
 use record::EventId;
 use weave::{Code, Mark, Slot, Spoiled};
-
-pub(crate) fn flag(t: bool) -> u64
-    ensures { result ≡ flag t }
-{
-    if t { 1 } else { 0 }
-}
 
 pub(crate) fn flag_said(n: u64) -> bool
     ensures { result ≡ flag_said n }
@@ -44,7 +38,7 @@ fn room_of(s: Slot) -> Room
     ensures { result ≡ room_of s }
 {
     let c = s.cursor;
-    let desc = flag(c.desc);
+    let desc = u64::from(c.desc);
     let filter = c.filter;
     Room {
         handle: s.handle,
@@ -79,19 +73,11 @@ fn slot_said(r: Room) -> Slot
 pub(crate) fn rooms_of(s: [Slot; Cursor::OPEN]) -> [Room; Cursor::OPEN]
     ensures { result ≡ rooms_of s }
 {
-    let a = room_of(s[0]);
-    let b = room_of(s[1]);
-    let c = room_of(s[2]);
-    let d = room_of(s[3]);
-    [a, b, c, d]
+    s.map(room_of)
 }
 
 pub(crate) fn slots_said(r: [Room; Cursor::OPEN]) -> [Slot; Cursor::OPEN]
     ensures { result ≡ slots_said r }
 {
-    let a = slot_said(r[0]);
-    let b = slot_said(r[1]);
-    let c = slot_said(r[2]);
-    let d = slot_said(r[3]);
-    [a, b, c, d]
+    r.map(slot_said)
 }

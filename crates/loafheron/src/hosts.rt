@@ -3,7 +3,7 @@ ghost use Rattle.std.specs.Prelude.{◌≡◌};
 ghost use Rattle.loafheron.specs.Crossing.{state_of, weave_said, host_said};
 
 use crate::State;
-use crate::crossing::{flag, flag_said, mark_of, mark_said, rooms_of, slots_said};
+use crate::crossing::{flag_said, mark_of, mark_said, rooms_of, slots_said};
 use host::Host;
 use record::{EventId, VirtualTime};
 use weave::{Lengths, Weave};
@@ -13,11 +13,11 @@ pub(crate) fn state_of(h: Host) -> State
 {
     let w = h.weave;
     let n = h.lengths;
-    let faulted = flag(h.faulted);
-    let running = flag(w.running);
+    let faulted = u64::from(h.faulted);
+    let running = u64::from(w.running);
     let mark = w.spoiled;
     let spoiled = mark_of(mark);
-    let late = flag(w.late);
+    let late = u64::from(w.late);
     let slots = w.slots;
     let rooms = rooms_of(slots);
     let trace = w.trace;

@@ -4,7 +4,7 @@ ghost use Rattle.host.specs.Hosts.{lent_as};
 ghost use Rattle.mounts.specs.Mount.{looked};
 ghost use Rattle.mounts.specs.Places.{place_of};
 ghost use Rattle.loafheron.specs.Crossing.{host_said};
-ghost use Rattle.loafheron.specs.Places.{side_number, place_said, found_at};
+ghost use Rattle.loafheron.specs.Places.{place_said, found_at};
 
 use crate::hosts::host_said;
 use crate::{Place, State};
@@ -24,20 +24,33 @@ pub extern "C" fn loafheron_state_size() -> u64
     State::SIZE
 }
 
-fn side_number(s: Side) -> u64
-    ensures { result ≡ side_number s }
-{
-    match s {
-        Side::Nowhere => 0,
-        Side::Card => Place::CARD,
-        Side::Staging => Place::STAGING,
-    }
-}
-
 impl Place {
+    pub const NOWHERE: u64 = 0;
+
     pub const CARD: u64 = 1;
 
     pub const STAGING: u64 = 2;
+
+    fn said(there: Option<mounts::Place>) -> Place
+        ensures { result ≡ place_said there }
+    {
+        let Some(p) = there else {
+            return Place {
+                buffer: Place::NOWHERE,
+                at: 0,
+                len: 0,
+            };
+        };
+        let buffer = match p.side {
+            Side::Card => Place::CARD,
+            Side::Staging => Place::STAGING,
+        };
+        Place {
+            buffer,
+            at: p.at as u64,
+            len: p.len as u64,
+        }
+    }
 }
 
 #[unsafe(no_mangle)]
@@ -54,11 +67,5 @@ pub extern "C" fn loafheron_look_up(
 {
     let h = host_said(state);
     let p = place_of(h, staging, card, manifest, index, EventId(id));
-    let side = p.side;
-    let buffer = side_number(side);
-    Place {
-        buffer,
-        at: p.at as u64,
-        len: p.len as u64,
-    }
+    Place::said(p)
 }

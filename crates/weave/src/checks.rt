@@ -9,16 +9,6 @@ use crate::{Code, Lengths, Weave};
 use card::Cursor;
 use record::EventId;
 
-impl Lengths {
-    fn same(self, is: Lengths) -> bool
-        ensures { result ≡ same_lengths self is }
-    {
-        let staging = is.staging == self.staging;
-        let card = is.card == self.card;
-        staging & (card & (is.manifest == self.manifest))
-    }
-}
-
 fn numbers_fine(next: EventId, count: u64) -> bool
     ensures { result ≡ numbers_fine next.0 count }
 {
@@ -44,7 +34,7 @@ impl Weave {
     ) -> bool
         ensures { result ≡ lent_fine was is good modules used next.0 self }
     {
-        let lengths = was.same(is);
+        let lengths = is == was;
         let numbers = numbers_fine(next, self.count);
         let turn = self.turn_fine(modules);
         let parts = (used <= is.card) & ((self.staged <= is.staging) & (numbers & turn));

@@ -38,48 +38,21 @@ impl Code {
     pub fn fine(self) -> bool
         ensures { result ≡ is_fine self }
     {
-        match self {
-            Code::Fine => true,
-            Code::Denied => false,
-            Code::NotNow => false,
-            Code::Unsound => false,
-            Code::NoRoom => false,
-            Code::Bad => false,
-            Code::Budget => false,
-            Code::BadValue => false,
-        }
+        matches!(self, Code::Fine)
     }
 
     // The one refusal that marks the weave.
     pub fn budget(self) -> bool
         ensures { result ≡ is_budget self }
     {
-        match self {
-            Code::Fine => false,
-            Code::Denied => false,
-            Code::NotNow => false,
-            Code::Unsound => false,
-            Code::NoRoom => false,
-            Code::Bad => false,
-            Code::Budget => true,
-            Code::BadValue => false,
-        }
+        matches!(self, Code::Budget)
     }
 
     // The one code that comes with a field.
     pub fn bad(self) -> bool
         ensures { result ≡ is_bad self }
     {
-        match self {
-            Code::Fine => false,
-            Code::Denied => false,
-            Code::NotNow => false,
-            Code::Unsound => false,
-            Code::NoRoom => false,
-            Code::Bad => true,
-            Code::Budget => false,
-            Code::BadValue => false,
-        }
+        matches!(self, Code::Bad)
     }
 
     // The first of two checks that finds fault.

@@ -54,7 +54,7 @@ pub struct Slot {
 }
 
 // The lengths of the buffers that every operation is lent.
-#[derive(Clone, Copy)]
+#[derive(Clone, Copy, PartialEq, Eq)]
 pub struct Lengths {
     pub staging: usize,
     pub card: usize,

@@ -1,8 +1,8 @@
 -- `weave::Weave::lent_fine` meets its contract. Assumes nothing.
-use Rattle.weave.specs.Checks.{lent_fine}
+use Rattle.weave.specs.Checks.{lent_fine, same_lengths}
 use Rattle.weave.proofs.Weave.lent_fine.Goals as goal
 
 pub returns : goal.returns
-unfolding lent_fine
+unfolding lent_fine same_lengths
 returns c =
-    simp (c.same-lengths.ensures, c.numbers_fine-numbers.ensures, c.turn_fine-turn.ensures)
+    simp (c.eq-lengths.ensures, c.numbers_fine-numbers.ensures, c.turn_fine-turn.ensures)
