@@ -8,7 +8,8 @@ use Prim.Native.Nat.{ℕ}
 use borrow.Author.Tests.{leb-true, le-leb, eqb-true, eq-eqb, not-true}
 use lib.ListN.{length}
 use Rattle.value.specs.declared.Fault.{Fault}
-use Rattle.value.specs.declared.Fault.TheVariants.{Fine as NoFault, Outside, Unfit}
+use Rattle.value.specs.declared.Fault.TheVariants.{Outside, Unfit}
+use Rattle.std.specs.Prelude.{Result, Ok, Err, is_ok}
 use Rattle.card.specs.Pick.{All}
 use Rattle.card.specs.Listing.{page_of}
 use Rattle.card.specs.Look.{page_by}
@@ -39,10 +40,18 @@ unspoilt Not e f = refl
 unspoilt Overspent e f = absurd (true≢false (sym e))
 unspoilt Panicked e f = absurd (true≢false (sym f))
 
-no-fault : (f : Fault) → not (is_outside f) ≡ true → not (is_unfit f) ≡ true → f ≡ NoFault
-no-fault NoFault e g = refl
-no-fault Outside e g = absurd (true≢false (sym e))
-no-fault Unfit e g = absurd (true≢false (sym g))
+no-fault : (k : Result ℕ Fault) → not (is_outside k) ≡ true → not (is_unfit k) ≡ true → is_ok k ≡ true
+no-fault (Ok len) e g = refl
+no-fault (Err Outside) e g = absurd (true≢false (sym e))
+no-fault (Err Unfit) e g = absurd (true≢false (sym g))
+
+not-outside : (k : Result ℕ Fault) → is_ok k ≡ true → not (is_outside k) ≡ true
+not-outside (Ok len) e = refl
+not-outside (Err f) e = absurd (true≢false (sym e))
+
+not-unfit : (k : Result ℕ Fault) → is_ok k ≡ true → not (is_unfit k) ≡ true
+not-unfit (Ok len) e = refl
+not-unfit (Err f) e = absurd (true≢false (sym e))
 
 unless : (p b : Bool) → p || b ≡ true → p ≡ false → b ≡ true
 unless true b e q = absurd (true≢false q)
@@ -120,9 +129,9 @@ module _ (w : World) where
                     (
                       b.granted,
                       (
-                        rw b.value,
+                        not-outside _ b.value,
                         (
-                          rw b.value,
+                          not-unfit _ b.value,
                           (or_else (is_panic m a) _ b.room, (or_else (is_panic m a) _ (λ c. le-leb _ h.weave.resmax (b.budget c)), tt)),
                         ),
                       ),

@@ -18,7 +18,8 @@ use Rattle.text.specs.Topic.{good_text}
 use Rattle.text.proofs.SpanLaws.{inside-end}
 use Rattle.value.specs.Values.{fault_number}
 use Rattle.value.specs.declared.Fault.{Fault}
-use Rattle.value.specs.declared.Fault.TheVariants.{Fine as NoFault, Outside, Unfit}
+use Rattle.value.specs.declared.Fault.TheVariants.{Outside, Unfit}
+use Rattle.std.specs.Prelude.{Result, Ok, Err}
 use Rattle.card.specs.Listing.{filter_of}
 use Rattle.weave.specs.declared.Code.TheVariants.{Denied, NotNow, Unsound, NoRoom, Bad, Budget, BadValue}
 use Rattle.weave.specs.Codes.{is_fine, number}
@@ -80,10 +81,10 @@ pub codes-are : map number (Denied ∷ NotNow ∷ Unsound ∷ NoRoom ∷ Bad ∷
 codes-are = refl
 
 -- a value's fault and the code that it gives have one number
-pub fault-numbers : (f : Fault) → fault_number f ≡ number (fault_code f)
-fault-numbers NoFault = refl
-fault-numbers Outside = refl
-fault-numbers Unfit = refl
+pub fault-numbers : (k : Result ℕ Fault) → fault_number k ≡ number (fault_code k)
+fault-numbers (Ok len) = refl
+fault-numbers (Err Outside) = refl
+fault-numbers (Err Unfit) = refl
 
 -- a refusal says its code's number, and that is no answer
 pub refusal-number : (s : Said) → is_refused s ≡ true → said_number s ≡ number (code_of s)

@@ -10,7 +10,8 @@ use lib.Dec.{leb, eqb}
 use lib.IntN.{ℤ}
 use lib.ListN.{length}
 use Rattle.value.specs.declared.Fault.{Fault}
-use Rattle.value.specs.declared.Fault.TheVariants.{Fine as NoFault, Outside, Unfit}
+use Rattle.value.specs.declared.Fault.TheVariants.{Outside, Unfit}
+use Rattle.std.specs.Prelude.{Result, Ok, Err}
 use Rattle.card.specs.Pick.{All}
 use Rattle.card.specs.declared.Page.{Page}
 use Rattle.card.specs.declared.Page.TheVariants.{End, Short, Bytes, Fault as Faulty}
@@ -68,10 +69,10 @@ spoiled-code Not = record { is = refl }
 spoiled-code Overspent = record { is = refl }
 spoiled-code Panicked = record { is = refl }
 
-fault-code : (f : Fault) → Comes (fault_code f) (check_at (not (is_outside f)) 16 ∷ check (not (is_unfit f)) BadValue ∷ [])
-fault-code NoFault = record { is = refl }
-fault-code Outside = record { is = refl }
-fault-code Unfit = record { is = refl }
+fault-code : (f : Result ℕ Fault) → Comes (fault_code f) (check_at (not (is_outside f)) 16 ∷ check (not (is_unfit f)) BadValue ∷ [])
+fault-code (Ok len) = record { is = refl }
+fault-code (Err Outside) = record { is = refl }
+fault-code (Err Unfit) = record { is = refl }
 
 -- a page that no record stands on which is not sound
 abbrev faulty : Page → Bool
@@ -161,7 +162,7 @@ module _ (w : World) where
     write-finds =
         gated _ (write_asks w m a)
         (field-then _ 255 _ _ (field-then _ 0 _ _ (field-then _ 32 _ _ (field-then _ 16 _ _ (field-then _ 24 _ _ (plain_then _ Denied _ _ refl
-        (followed (check_at _ 16 ∷ check _ BadValue ∷ []) _ _ _ refl (named 16 _ _ (fault-code (payload_checked m (write_args m a)).fault) refl)
+        (followed (check_at _ 16 ∷ check _ BadValue ∷ []) _ _ _ refl (named 16 _ _ (fault-code (payload_checked m (write_args m a))) refl)
         (plainly _ _ (stage_code h (is_panic m a) (write_charge w.charge m a) (write_args m a).topic.len (data_len m a) (length l.staging)) refl))))))))
 
     pub open-finds : Finds (open_check l h m a) (checks_of w (Open m a))

@@ -18,8 +18,9 @@ use Rattle.text.specs.Span.{inside}
 use Rattle.text.specs.Topic.{good_text, no_control}
 use Rattle.text.specs.Utf8.{utf8, utf8_from, after}
 use Rattle.text.specs.Words.{panic_topic, core_topic, log_topic}
-use Rattle.value.specs.declared.Checked.{Checked}
-use Rattle.value.specs.declared.Fault.TheVariants.{Fine as NoFault}
+use Rattle.std.specs.Prelude.{Result, Ok}
+use Rattle.std.specs.Result.{result_unwrap_or}
+use Rattle.value.specs.declared.Fault.{Fault}
 use Rattle.manifest.specs.Line.{number_in, modules_in, charge_in, one_to, holder_in, grant_form, right_in}
 use Rattle.manifest.specs.Rights.{granted, any_gives, gives}
 use Rattle.manifest.specs.Words.{modules_word, charge_word, grant_word, in_word, out_word}
@@ -113,7 +114,7 @@ pub len-fine : len_fine (write_args memory 8) ≡ true
 unfolding len_fine write_args field_at record_fine inside memory le_bytes le_at
 len-fine = refl
 
-pub raw : payload_checked memory (write_args memory 8) ≡ record { fault = NoFault; len = 0 }
+pub raw : payload_checked memory (write_args memory 8) ≡ Ok 0
 unfolding payload_checked write_args field_at record_fine inside memory le_bytes le_at
 raw = refl
 
@@ -135,7 +136,7 @@ pub topic-long : (write_args memory 8).topic.len ≡ 1
 topic-long = rw write-args
 
 pub data-none : data_len memory 8 ≡ 0
-data-none = ap (λ (k : Checked). k.len) raw
+data-none = ap (λ (k : Result ℕ Fault). result_unwrap_or k 0) raw
 
 pub topic-read : written_topic memory 8 ≡ 116 ∷ []
 topic-read = rw (write-args, topic-is)

@@ -15,7 +15,8 @@ use Rattle.text.specs.Compare.{same_bytes, prefix_of}
 use Rattle.text.specs.Flags.{good_flags}
 use Rattle.text.specs.Span.{inside}
 use Rattle.text.specs.Sizes.{total_len}
-use Rattle.value.specs.declared.Checked.{Checked}
+use Rattle.std.specs.Prelude.{Result, is_ok}
+use Rattle.value.specs.declared.Fault.{Fault}
 use Rattle.manifest.specs.Charge.{charge_by}
 use Rattle.manifest.specs.Saying.{may_read}
 use Rattle.record.specs.Record.{id_of, topic_of}
@@ -134,7 +135,7 @@ module _ (n c t : ℕ) (n-least : 65536 ≤ n) (n-most : n ≤ 1048576) (c-least
     payload = data-fine;
     value_len = len-fine;
     granted = rw topic-read may-write;
-    value = ap (λ (k : Checked). k.fault) raw;
+    value = ap (λ (k : Result ℕ Fault). is_ok k) raw;
     room = λ p. rw (topic-long, data-none, staging₁, le-leb 136 n (omega arith));
     budget = λ p. rw (said-first, topic-long, data-none) (omega arith);
   }

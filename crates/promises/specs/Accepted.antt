@@ -1,9 +1,8 @@
 -- Promises 1 and 2: "No code is given in any other case." What each call asks, and nothing else.
 -- Assumes nothing.
-use Rattle.std.specs.Prelude.{◌≡◌, true, false, List, ℕ, ◌+◌, ◌^◌, ◌≤◌, length}
+use Rattle.std.specs.Prelude.{◌≡◌, true, false, List, ℕ, ◌+◌, ◌^◌, ◌≤◌, length, is_ok}
 use Rattle.text.specs.Topic.{good_topic}
 use Rattle.text.specs.Flags.{good_flags}
-use Rattle.value.specs.declared.Fault.TheVariants.{Fine as NoFault}
 use Rattle.manifest.specs.Saying.{is_good, modules_said, manifest_of, may_read, may_write}
 use Rattle.card.specs.Listing.{page_of}
 use Rattle.card.specs.Walk.{chain_to}
@@ -74,7 +73,7 @@ pub record WriteMay (charge : ℕ → ℕ) (l : Lent) (h : Host) (m : List ℕ) 
   pub value_len : len_fine (write_args m a) ≡ true
   -- "topic not granted"
   pub granted : may_write l.text h.weave.turn (written_topic m a) ≡ true
-  pub value : (payload_checked m (write_args m a)).fault ≡ NoFault
+  pub value : is_ok (payload_checked m (write_args m a)) ≡ true
   -- a panic counts "once through check 8"
   pub room : is_panic m a ≡ false → room_fine h (write_args m a).topic.len (data_len m a) (length l.staging) ≡ true
   -- "If units + charge > res_max the call is -6"

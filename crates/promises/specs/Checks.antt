@@ -1,11 +1,11 @@
 -- 01, "Order of checks": of each call, what is asked, one after the other, and the code that is given where it fails. "No code is given in any other case." 02, A5: with
 -- -5 from a module call, the field too: "the byte offset, in its argument record, of the first field that failed, in the order of the checks".
 -- Assumes nothing.
-use Rattle.std.specs.Prelude.{◌≡◌, Bool, true, false, not, ◌||◌, cond, List, [], ◌∷◌, ◌++◌, ℕ, ◌+◌, ◌^◌, leb, eqb, length}
+use Rattle.std.specs.Prelude.{◌≡◌, Bool, true, false, not, ◌||◌, cond, List, [], ◌∷◌, ◌++◌, ℕ, ◌+◌, ◌^◌, leb, eqb, length, Result, Ok, Err}
 use Rattle.text.specs.Topic.{good_topic}
 use Rattle.text.specs.Flags.{good_flags}
 use Rattle.value.specs.declared.Fault.{Fault}
-use Rattle.value.specs.declared.Fault.TheVariants.{Fine as NoFault, Outside, Unfit}
+use Rattle.value.specs.declared.Fault.TheVariants.{Outside, Unfit}
 use Rattle.manifest.specs.Saying.{is_good, modules_said, manifest_of, may_read, may_write}
 use Rattle.card.specs.Walk.{chain_to}
 use Rattle.card.specs.Listing.{fit, page_of}
@@ -69,15 +69,15 @@ is_panicked Not = false
 is_panicked Overspent = false
 is_panicked Panicked = true
 
-abbrev pub is_outside : Fault → Bool
-is_outside NoFault = false
-is_outside Outside = true
-is_outside Unfit = false
+abbrev pub is_outside : Result ℕ Fault → Bool
+is_outside (Ok len) = false
+is_outside (Err Outside) = true
+is_outside (Err Unfit) = false
 
-abbrev pub is_unfit : Fault → Bool
-is_unfit NoFault = false
-is_unfit Outside = false
-is_unfit Unfit = true
+abbrev pub is_unfit : Result ℕ Fault → Bool
+is_unfit (Ok len) = false
+is_unfit (Err Outside) = false
+is_unfit (Err Unfit) = true
 
 -- (1), but for the memory
 abbrev pub lent_asks : World → Bool
@@ -121,8 +121,8 @@ write_asks w m a =
     ∷ check_at (data_fine m (write_args m a)) 16
     ∷ check_at (len_fine (write_args m a)) 24
     ∷ check (may_write w.lent.text w.host.weave.turn (written_topic m a)) Denied  -- (7)
-    ∷ check_at (not (is_outside (payload_checked m (write_args m a)).fault)) 16  -- (8)
-    ∷ check (not (is_unfit (payload_checked m (write_args m a)).fault)) BadValue
+    ∷ check_at (not (is_outside (payload_checked m (write_args m a)))) 16  -- (8)
+    ∷ check (not (is_unfit (payload_checked m (write_args m a)))) BadValue
     -- a panic counts "once through check 8"
     ∷ check (is_panic m a || room_fine w.host (write_args m a).topic.len (data_len m a) (length w.lent.staging)) NoRoom  -- (9)
     ∷ check (is_panic m a || leb (w.host.weave.units + write_charge w.charge m a) w.host.weave.resmax) Budget  -- (10)

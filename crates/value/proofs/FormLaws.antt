@@ -12,31 +12,32 @@ use Rattle.le.specs.Splice.{splice, wholly, part}
 use Rattle.le.proofs.SpliceLaws.{splice-nil, splice-then}
 use Rattle.text.specs.Span.{inside}
 use Rattle.text.proofs.SpanLaws.{inside-end}
+use Rattle.std.specs.Result.{result_unwrap_or}
 use Rattle.value.specs.declared.cell.Cell.{Cell}
 use Rattle.value.specs.declared.Span.{Span}
 use Rattle.value.specs.declared.Value.{Value}
-use Rattle.value.specs.declared.Checked.{Checked}
+use Rattle.std.specs.Prelude.{Result, Ok, Err, is_ok, ⊤}
 use Rattle.value.specs.declared.Fault.{Fault}
-use Rattle.value.specs.declared.Fault.TheVariants.{Fine, Outside, Unfit}
+use Rattle.value.specs.declared.Fault.TheVariants.{Outside}
 use Rattle.value.specs.Cells.{cell_at, cell_bytes}
-use Rattle.value.specs.Values.{decoded, content_span, content_len, is_fine, fault_of, value_fault}
-use Rattle.value.specs.Forms.{cell_of, form_of, payload, checked_value, checked_of}
+use Rattle.value.specs.Values.{decoded, content_span, content_len, span_fault, fault_of, value_fault}
+use Rattle.value.specs.Forms.{cell_of, form_of, payload, with_len, checked_value, checked_of}
 use Rattle.value.proofs.CellLaws.{length-cell}
-use Rattle.value.proofs.FaultLaws.{fine-is, passed, content-end, content-long}
+use Rattle.value.proofs.FaultLaws.{passed, content-end, content-long}
 
 -- "data_len is 32 + n"
-pub form-long : (m : List ℕ) (c : Cell) → fault_of m (decoded c) ≡ Fine → length (form_of m c) ≡ 32 + content_len (decoded c)
+pub form-long : (m : List ℕ) (c : Cell) → fault_of m (decoded c) ≡ Ok tt → length (form_of m c) ≡ 32 + content_len (decoded c)
 unfolding form_of
 form-long m c e = simp (length-append, length-cell) (ap (λ (n : ℕ). 32 + n) (content-long m (decoded c) e))
 
 -- what a value that has no fault is ready for
 pub record Ready (m : List ℕ) (p : ℕ) : Type 0 where
   pub room : p + 32 ≤ length m
-  pub fine : fault_of m (decoded (cell_at m p)) ≡ Fine
+  pub fine : fault_of m (decoded (cell_at m p)) ≡ Ok tt
   pub same : payload m p ≡ form_of m (cell_at m p)
   pub long : length (payload m p) ≡ 32 + content_len (decoded (cell_at m p))
 
-pub ready : (m : List ℕ) (p : ℕ) → value_fault m p ≡ Fine → Ready m p
+pub ready : (m : List ℕ) (p : ℕ) → value_fault m p ≡ Ok tt → Ready m p
 unfolding value_fault payload
 ready m p e =
     let t = passed (inside p 32 (length m)) (fault_of m (decoded (cell_at m p))) e in
@@ -49,56 +50,56 @@ ready m p e =
     }
 
 -- a payload that is not empty is that of a value with no fault
-pub some-fine : (m : List ℕ) (p : ℕ) → (length (payload m p) ≡ 0 → ⊥) → value_fault m p ≡ Fine
+pub some-fine : (m : List ℕ) (p : ℕ) → (length (payload m p) ≡ 0 → ⊥) → value_fault m p ≡ Ok tt
 unfolding payload
 some-fine m p h = go (value_fault m p) h
   where
-    go : (f : Fault) → (length (cond (is_fine f) (form_of m (cell_at m p)) []) ≡ 0 → ⊥) → f ≡ Fine
-    go Fine k = refl
-    go Outside k = absurd (k refl)
-    go Unfit k = absurd (k refl)
+    go : (f : Result ⊤ Fault) → (length (cond (is_ok f) (form_of m (cell_at m p)) []) ≡ 0 → ⊥) → f ≡ Ok tt
+    go (Ok x) k = refl
+    go (Err f) k = absurd (k refl)
 
--- ---- the check: f is the fault that was found, b whether it is `Fine`
+-- ---- the check
 
-module _ (m : List ℕ) (v : Value) (f : Fault) (b : Bool) (e : f ≡ fault_of m v) (q : b ≡ is_fine f) where
-  pub checked-end : (s : Span) → b ≡ true → s ≡ content_span v → s.ptr + s.len ≤ length m
-  checked-end s t k = rw k (content-end m v (sym e ∙ fine-is f (sym q ∙ t)))
+module _ (m : List ℕ) (p : ℕ) where
+  -- of a value whose 32 bytes are inside: what the check of the decoded value says
+  pub checked-inside : inside p 32 (length m) ≡ true → checked_of m (decoded (cell_at m p)) ≡ checked_value m p
+  unfolding checked_of checked_value value_fault payload
+  checked-inside e = rw e (go (fault_of m (decoded (cell_at m p))) refl)
+    where
+      go : (f : Result ⊤ Fault) → fault_of m (decoded (cell_at m p)) ≡ f
+          → with_len f (32 + content_len (decoded (cell_at m p))) ≡ with_len f (length (cond (is_ok f) (form_of m (cell_at m p)) []))
+      go (Ok x) q = ap (λ (n : ℕ). Ok n) (sym (form-long m (cell_at m p) q))
+      go (Err f) q = refl
 
-  pub checked-fine : (s : Span) → b ≡ true → s ≡ content_span v → record { fault = f; len = 32 + s.len } ≡ checked_of m v
-  unfolding checked_of
-  checked-fine s t k = rw (← e, ← q, t, k)
+  -- of another: what is wrong with the span
+  pub checked-outside : (f : Fault) → span_fault m (record { ptr = p; len = 32 }) ≡ Err f → Err f ≡ checked_value m p
+  unfolding checked_value value_fault span_fault
+  checked-outside f e = go (inside p 32 (length m)) e
+    where
+      go : (b : Bool) → cond {A = Result ⊤ Fault} b (Ok tt) (Err Outside) ≡ Err f → Err f ≡ with_len (cond b (fault_of m (decoded (cell_at m p))) (Err Outside)) (length (payload m p))
+      go true q = let z : ◌≡◌ {A = ℕ} 0 1 = cc in absurd (omega arith)
+      go false q = ap (λ (r : Result ⊤ Fault). with_len r (length (payload m p))) (sym q)
 
-  pub checked-not : b ≡ false → record { fault = f; len = 0 } ≡ checked_of m v
-  unfolding checked_of
-  checked-not t = rw (← e, ← q, t)
+  -- what its answer says
+  pub checked-ok : (n : ℕ) → checked_value m p ≡ Ok n → (value_fault m p ≡ Ok tt) × (n ≡ length (payload m p))
+  unfolding checked_value
+  checked-ok n e = go (value_fault m p) e
+    where
+      go : (f : Result ⊤ Fault) → with_len f (length (payload m p)) ≡ Ok n → (f ≡ Ok tt) × (n ≡ length (payload m p))
+      go (Ok x) q = (refl, sym (ap (λ (r : Result ℕ Fault). result_unwrap_or r 0) q))
+      go (Err f) q = let z : ◌≡◌ {A = ℕ} 0 1 = cc in absurd (omega arith)
 
-pub checked-outside : (m : List ℕ) (p : ℕ) → inside p 32 (length m) ≡ false → record { fault = Outside; len = 0 } ≡ checked_value m p
-unfolding checked_value value_fault payload
-checked-outside m p e = rw e
-
-pub checked-inside : (m : List ℕ) (p : ℕ) → inside p 32 (length m) ≡ true → checked_of m (decoded (cell_at m p)) ≡ checked_value m p
-unfolding checked_of checked_value value_fault payload
-checked-inside m p e = rw e (go (fault_of m (decoded (cell_at m p))) refl)
-  where
-    go : (f : Fault) → fault_of m (decoded (cell_at m p)) ≡ f
-        → ◌≡◌ {A = Checked} (record { fault = f; len = cond (is_fine f) (32 + content_len (decoded (cell_at m p))) 0 })
-        (record { fault = f; len = length (cond (is_fine f) (form_of m (cell_at m p)) []) })
-    go Fine q = ap (λ (n : ℕ). record { fault = Fine; len = n }) (sym (form-long m (cell_at m p) q))
-    go Outside q = refl
-    go Unfit q = refl
-
--- what the answer of `check_value` says
-pub checked-fault : (m : List ℕ) (p : ℕ) (k : Checked) → k ≡ checked_value m p → k.fault ≡ value_fault m p
-unfolding checked_value
-checked-fault m p k e = ap (λ (x : Checked). x.fault) e
-
-pub checked-len : (m : List ℕ) (p : ℕ) (k : Checked) → k ≡ checked_value m p → k.len ≡ length (payload m p)
-unfolding checked_value
-checked-len m p k e = ap (λ (x : Checked). x.len) e
+  pub checked-err : (f : Fault) → checked_value m p ≡ Err f → length (payload m p) ≡ 0
+  unfolding checked_value payload
+  checked-err f e = go (value_fault m p) e
+    where
+      go : (g : Result ⊤ Fault) → with_len g (length (cond (is_ok g) (form_of m (cell_at m p)) [])) ≡ Err f → length (cond (is_ok g) (form_of m (cell_at m p)) []) ≡ 0
+      go (Ok x) q = let z : ◌≡◌ {A = ℕ} 0 1 = cc in absurd (omega arith)
+      go (Err h) q = refl
 
 -- ---- the writing: c and v are what was read at p
 
-module _ (m : List ℕ) (p : ℕ) (f : value_fault m p ≡ Fine) (c : Cell) (v : Value) (ec : c ≡ cell_at m p) (ev : v ≡ decoded c) where
+module _ (m : List ℕ) (p : ℕ) (f : value_fault m p ≡ Ok tt) (c : Cell) (v : Value) (ec : c ≡ cell_at m p) (ev : v ≡ decoded c) where
   same-value : v ≡ decoded (cell_at m p)
   same-value = ev ∙ ap decoded ec
 

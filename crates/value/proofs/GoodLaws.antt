@@ -14,37 +14,41 @@ use Rattle.le.specs.Le.{Bytes}
 use Rattle.le.proofs.TestLaws.{and_left, and_right, bool_same}
 use Rattle.text.specs.Compare.{same_bytes}
 use Rattle.text.proofs.CompareLaws.{same_true, same_refl}
+use Rattle.std.specs.Result.{result_unwrap_or}
 use Rattle.value.specs.declared.cell.Cell.{Cell}
-use Rattle.value.specs.declared.Checked.{Checked}
+use Rattle.std.specs.Prelude.{Result, Ok, Err, is_ok, ⊤}
 use Rattle.value.specs.declared.Value.{Value}
 use Rattle.value.specs.declared.Fault.{Fault}
-use Rattle.value.specs.declared.Fault.TheVariants.{Fine, Outside, Unfit}
 use Rattle.value.specs.Cells.{cell_at, cell_bytes, same_cell}
-use Rattle.value.specs.Values.{decoded, content_of, content_len, is_fine, fault_of, value_fault}
-use Rattle.value.specs.Forms.{cell_of, form_of, payload, checked_of, good_stored}
+use Rattle.value.specs.Values.{decoded, content_of, content_len, fault_of, value_fault}
+use Rattle.value.specs.Forms.{cell_of, form_of, payload, with_len, checked_of, good_stored}
 use Rattle.value.proofs.CellLaws.{of, length-cell, Fitting, read_fits, cell-back, cell-exact, cell-zeros}
 use Rattle.value.proofs.DecodeLaws.{Read, plain, text, array, wrong, reads}
 use Rattle.value.proofs.ScalarLaws.{kind-lt, bits-lt}
-use Rattle.value.proofs.FaultLaws.{fine-is, inside_is, content-long}
+use Rattle.value.proofs.FaultLaws.{inside_is, content-long}
 use Rattle.value.proofs.FormLaws.{form-long, ready}
 use Rattle.value.proofs.MovedLaws.{moved}
 
 -- ---- what is good is stored as it stands
 
+fine-is : (f : Result ⊤ Fault) → is_ok f ≡ true → f ≡ Ok tt
+fine-is (Ok x) e = refl
+fine-is (Err f) e = let z : ◌≡◌ {A = ℕ} 0 1 = cc in absurd (omega arith)
+
 pub record Good (b : List ℕ) : Type 0 where
   pub long : 32 ≤ length b
-  pub fine : fault_of b (decoded (cell_at b 0)) ≡ Fine
+  pub fine : fault_of b (decoded (cell_at b 0)) ≡ Ok tt
   pub same : form_of b (cell_at b 0) ≡ b
 
 pub good-is : (b : List ℕ) → good_stored b ≡ true → Good b
 unfolding good_stored
 good-is b e =
     let f = fault_of b (decoded (cell_at b 0)) in
-    let r = and_right (leb 32 (length b)) (is_fine f && same_bytes (form_of b (cell_at b 0)) b) e in
+    let r = and_right (leb 32 (length b)) (is_ok f && same_bytes (form_of b (cell_at b 0)) b) e in
     record {
       long = leb-true 32 (length b) (and_left (leb 32 (length b)) _ e);
-      fine = fine-is f (and_left (is_fine f) (same_bytes (form_of b (cell_at b 0)) b) r);
-      same = same_true (form_of b (cell_at b 0)) b (and_right (is_fine f) (same_bytes (form_of b (cell_at b 0)) b) r);
+      fine = fine-is f (and_left (is_ok f) (same_bytes (form_of b (cell_at b 0)) b) r);
+      same = same_true (form_of b (cell_at b 0)) b (and_right (is_ok f) (same_bytes (form_of b (cell_at b 0)) b) r);
     }
 
 is-good : (b : List ℕ) → Good b → good_stored b ≡ true
@@ -65,7 +69,7 @@ kept-fits h array = record { kind = lit< tt; flags = h.flags; first = lit< tt; s
 kept-fits h wrong = record { kind = lit< tt; flags = h.flags; first = lit< tt; second = lit< tt }
 
 -- m is memory: every element is a byte
-pub payload-good : (m : List ℕ) (p : ℕ) → Bytes m → value_fault m p ≡ Fine → good_stored (payload m p) ≡ true
+pub payload-good : (m : List ℕ) (p : ℕ) → Bytes m → value_fault m p ≡ Ok tt → good_stored (payload m p) ≡ true
 unfolding form_of
 payload-good m p h f =
     let b = payload m p in
@@ -125,15 +129,14 @@ module _ (b : List ℕ) (h : Bytes b) (g : Good b) where
   good-zeros : all_zero (part 24 8 b) ≡ true
   good-zeros = ap (λ (s : List ℕ). all_zero (part 24 8 s)) good-form ∙ cell-zeros kept-cell (content_of b (decoded (cell_at b 0)))
 
-  good-long : (checked_of b (decoded (cell_at b 0))).len ≡ length b
+  good-long : checked_of b (decoded (cell_at b 0)) ≡ Ok (length b)
   unfolding checked_of
-  good-long = rw g.fine (sym (form-long b (cell_at b 0) g.fine) ∙ ap length g.same)
+  good-long = rw g.fine (ap (λ (n : ℕ). Ok n) (sym (form-long b (cell_at b 0) g.fine) ∙ ap length g.same))
 
--- a test that finds a length finds no fault
-found : (f : Fault) (n k : ℕ) → 32 ≤ k → cond (is_fine f) (32 + n) 0 ≡ k → (f ≡ Fine) × (32 + n ≡ k)
-found Fine n k l e = (refl, e)
-found Outside n k l e = absurd (omega arith)
-found Unfit n k l e = absurd (omega arith)
+-- a check that gives a length finds no fault
+found : (f : Result ⊤ Fault) (n k : ℕ) → with_len f n ≡ Ok k → (f ≡ Ok tt) × (n ≡ k)
+found (Ok x) n k e = (refl, ap (λ (r : Result ℕ Fault). result_unwrap_or r 0) e)
+found (Err f) n k e = let z : ◌≡◌ {A = ℕ} 0 1 = cc in absurd (omega arith)
 
 -- a cell that is stored as it is has its bytes right behind it
 pub content-there : (b : List ℕ) (c : Cell) (v : Value) → Read c v → c ≡ cell_of c.flags 32 v → content_of b v ≡ part 32 (content_len v) b
@@ -146,13 +149,13 @@ pub good-short : (b : List ℕ) → length b < 32 → false ≡ good_stored b
 unfolding good_stored
 good-short b h = rw (lt-leb 32 (length b) h)
 
-module _ (b : List ℕ) (h : Bytes b) (l : 32 ≤ length b) (c : Cell) (v : Value) (k : Checked) (ec : c ≡ cell_at b 0) (ev : v ≡ decoded c)
+module _ (b : List ℕ) (h : Bytes b) (l : 32 ≤ length b) (c : Cell) (v : Value) (k : Result ℕ Fault) (ec : c ≡ cell_at b 0) (ev : v ≡ decoded c)
     (ek : k ≡ checked_of b v) where
   is-checked : k ≡ checked_of b (decoded (cell_at b 0))
   is-checked = ek ∙ ap (checked_of b) (ev ∙ ap decoded ec)
 
-  pub good-other : (k.len ≡ length b → ⊥) → false ≡ good_stored b
-  good-other n = never (good_stored b) (λ e. n (ap (λ (x : Checked). x.len) is-checked ∙ good-long b h (good-is b e)))
+  pub good-other : (k ≡ Ok (length b) → ⊥) → false ≡ good_stored b
+  good-other n = never (good_stored b) (λ e. n (is-checked ∙ good-long b h (good-is b e)))
 
   module _ (d : Cell) (s : Bool) (ed : d ≡ cell_of c.flags 32 v) (es : s ≡ same_cell c d) where
     is_same : s ≡ same_cell (cell_at b 0) (cell_of (cell_at b 0).flags 32 (decoded (cell_at b 0)))
@@ -161,14 +164,14 @@ module _ (b : List ℕ) (h : Bytes b) (l : 32 ≤ length b) (c : Cell) (v : Valu
     pub good-differs : s ≡ false → false ≡ good_stored b
     good-differs q = never (good_stored b) (λ e. true≢false (sym (is_same ∙ good-cell b h (good-is b e)) ∙ q))
 
-    pub good-rest : k.len ≡ length b → s ≡ true → (z : Bool) → z ≡ all_zero (part 24 8 b) → z ≡ good_stored b
+    pub good-rest : k ≡ Ok (length b) → s ≡ true → (z : Bool) → z ≡ all_zero (part 24 8 b) → z ≡ good_stored b
     unfolding form_of checked_of
     good-rest n q z ez =
         bool_same z (good_stored b)
         (λ t.
         let c₀ = cell_at b 0 in
         let v₀ = decoded c₀ in
-        let f = found (fault_of b v₀) (content_len v₀) (length b) l (sym (ap (λ (x : Checked). x.len) is-checked) ∙ n) in
+        let f = found (fault_of b v₀) (32 + content_len v₀) (length b) (sym is-checked ∙ n) in
         let e : c₀ ≡ cell_of c₀.flags 32 v₀ = cell-is c₀ (cell_of c₀.flags 32 v₀) (sym is_same ∙ q) in
         let head : cell_bytes (cell_of c₀.flags 32 v₀) ≡ part 0 32 b = ap cell_bytes (sym e) ∙ cell-exact b h l (sym ez ∙ t) in
         let tail : content_of b v₀ ≡ part 32 (content_len v₀) b = content-there b c₀ v₀ (reads c₀ (read_fits b 0 h)) e in

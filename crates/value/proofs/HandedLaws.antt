@@ -15,7 +15,7 @@ use Rattle.le.proofs.LeLaws.{length-le_bytes, le_at-splice-before, le_at-splice-
 use Rattle.text.specs.Span.{inside}
 use Rattle.value.specs.declared.cell.Cell.{Cell}
 use Rattle.value.specs.declared.Value.{Value}
-use Rattle.value.specs.declared.Fault.TheVariants.{Fine}
+use Rattle.std.specs.Prelude.{Ok}
 use Rattle.value.specs.Cells.{cell_at}
 use Rattle.value.specs.Scalars.{kind_of}
 use Rattle.value.specs.Values.{decoded, content_of, content_len, fault_of, value_fault}
@@ -63,7 +63,7 @@ module _ (b : List ℕ) (a : ℕ) (l : 32 ≤ length b) (w : a + 32 < 2 ^ 64) wh
 
 -- ---- handed
 
-seen : (m b : List ℕ) (a : ℕ) → inside a 32 (length m) ≡ true → fault_of m (decoded (cell_at m a)) ≡ Fine → form_of m (cell_at m a) ≡ b → Handed m b a
+seen : (m b : List ℕ) (a : ℕ) → inside a 32 (length m) ≡ true → fault_of m (decoded (cell_at m a)) ≡ Ok tt → form_of m (cell_at m a) ≡ b → Handed m b a
 unfolding value_fault payload
 seen m b a i f s = record { fine = rw i f; same = rw (i, f) s }
 

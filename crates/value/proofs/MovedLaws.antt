@@ -15,7 +15,7 @@ use Rattle.value.specs.declared.cell.Cell.{Cell}
 use Rattle.value.specs.declared.Span.{Span}
 use Rattle.value.specs.declared.Value.{Value}
 use Rattle.value.specs.declared.Value.TheVariants.{Plain, Text, Array}
-use Rattle.value.specs.declared.Fault.TheVariants.{Fine}
+use Rattle.std.specs.Prelude.{Ok}
 use Rattle.value.specs.Cells.{cell_at, cell_bytes}
 use Rattle.value.specs.Scalars.{scalar_cell}
 use Rattle.value.specs.Values.{decoded, content_of, content_len, fault_of}
@@ -26,17 +26,17 @@ use Rattle.value.proofs.FaultLaws.{text-utf8, text-fine, span-fine}
 
 -- the value at p of M is as good as v of memory m, whose flags are given
 pub record Moved (m : List ℕ) (flags : ℕ) (v : Value) (M : List ℕ) (p : ℕ) : Type 0 where
-  pub fine : fault_of M (decoded (cell_at M p)) ≡ Fine
+  pub fine : fault_of M (decoded (cell_at M p)) ≡ Ok tt
   pub same : form_of M (cell_at M p) ≡ cell_bytes (cell_of flags 32 v) ++ content_of m v
 
 -- d is read at p, and says w
-read_as : (m : List ℕ) (v : Value) (M : List ℕ) (p : ℕ) (d : Cell) (w : Value) → cell_at M p ≡ d → decoded d ≡ w → fault_of M w ≡ Fine → content_of M w ≡ content_of m v
+read_as : (m : List ℕ) (v : Value) (M : List ℕ) (p : ℕ) (d : Cell) (w : Value) → cell_at M p ≡ d → decoded d ≡ w → fault_of M w ≡ Ok tt → content_of M w ≡ content_of m v
     → cell_of d.flags 32 w ≡ cell_of d.flags 32 v → Moved m d.flags v M p
 unfolding form_of
 read_as m v M p d w e k f x s = record { fine = rw (e, k) f; same = rw (e, k, x, s) }
 
 module _ (m : List ℕ) (c : Cell) (M : List ℕ) (p q : ℕ) where
-  pub moved : (v : Value) → Read c v → fault_of m v ≡ Fine → cell_at M p ≡ cell_of c.flags q v → inside q (content_len v) (length M) ≡ true
+  pub moved : (v : Value) → Read c v → fault_of m v ≡ Ok tt → cell_at M p ≡ cell_of c.flags q v → inside q (content_len v) (length M) ≡ true
       → part q (content_len v) M ≡ content_of m v → Moved m c.flags v M p
   moved v (plain s h) f e i x =
       read_as m v M p (scalar_cell c.flags s) (Plain s) e (scalar-back c.flags s h) refl (part_none M 0 0 refl ∙ sym (part_none m 0 0 refl)) refl

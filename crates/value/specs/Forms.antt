@@ -1,14 +1,14 @@
 -- The stored form of a value. 01, "Value payload".
 -- Assumes nothing.
-use Rattle.std.specs.Prelude.{Bool, ◌&&◌, cond, List, [], ◌++◌, ℕ, ◌+◌, leb, length}
+use Rattle.std.specs.Prelude.{Bool, ◌&&◌, cond, List, [], ◌++◌, ℕ, ◌+◌, leb, length, Result, Ok, Err, is_ok, ⊤}
 use Rattle.text.specs.Compare.{same_bytes}
 use Rattle.value.specs.declared.cell.Cell.{Cell}
 use Rattle.value.specs.declared.Value.{Value}
 use Rattle.value.specs.declared.Value.TheVariants.{Plain, Text, Array, Wrong}
-use Rattle.value.specs.declared.Checked.{Checked}
+use Rattle.value.specs.declared.Fault.{Fault}
 use Rattle.value.specs.Cells.{cell_at, cell_bytes}
 use Rattle.value.specs.Scalars.{scalar_cell}
-use Rattle.value.specs.Values.{decoded, content_of, content_len, is_fine, fault_of, value_fault}
+use Rattle.value.specs.Values.{decoded, content_of, content_len, fault_of, value_fault}
 
 -- a value's numbers, unused ones 0, where the bytes of a string or byte array begin at `at` (what is `Wrong` has a fault and is never stored)
 abbrev pub cell_of : ℕ → ℕ → Value → Cell
@@ -23,16 +23,21 @@ form_of m c = cell_bytes (cell_of c.flags 32 (decoded c)) ++ content_of m (decod
 
 -- the payload of the value at address p, empty where it has a fault
 unfoldable pub payload : List ℕ → ℕ → List ℕ
-payload m p = cond (is_fine (value_fault m p)) (form_of m (cell_at m p)) []
+payload m p = cond (is_ok (value_fault m p)) (form_of m (cell_at m p)) []
+
+-- a length, where there is no fault
+abbrev pub with_len : Result ⊤ Fault → ℕ → Result ℕ Fault
+with_len (Ok fine) n = Ok n
+with_len (Err fault) n = Err fault
 
 -- check 8, and data_len
-unfoldable pub checked_value : List ℕ → ℕ → Checked
-checked_value m p = record { fault = value_fault m p; len = length (payload m p) }
+unfoldable pub checked_value : List ℕ → ℕ → Result ℕ Fault
+checked_value m p = with_len (value_fault m p) (length (payload m p))
 
 -- "data_len is 32 + n": the same of a value that has been decoded
-unfoldable pub checked_of : List ℕ → Value → Checked
-checked_of m v = record { fault = fault_of m v; len = cond (is_fine (fault_of m v)) (32 + content_len v) 0 }
+unfoldable pub checked_of : List ℕ → Value → Result ℕ Fault
+checked_of m v = with_len (fault_of m v) (32 + content_len v)
 
 -- "a value payload has just the stored form above": taken for a memory of its own, with the value at its start, it is stored as it stands
 unfoldable pub good_stored : List ℕ → Bool
-good_stored b = leb 32 (length b) && (is_fine (fault_of b (decoded (cell_at b 0))) && same_bytes (form_of b (cell_at b 0)) b)
+good_stored b = leb 32 (length b) && (is_ok (fault_of b (decoded (cell_at b 0))) && same_bytes (form_of b (cell_at b 0)) b)

@@ -1,6 +1,6 @@
 -- What 32 bytes say, and whether it may be stored. 01, "Value payload".
 -- Assumes nothing.
-use Rattle.std.specs.Prelude.{Bool, true, false, cond, List, ℕ, ◌%◌, eqb, ℤ, pos, negsuc, length}
+use Rattle.std.specs.Prelude.{Bool, true, false, cond, List, ℕ, ◌%◌, eqb, ℤ, pos, negsuc, length, Result, Ok, Err, ⊤}
 use Rattle.std.specs.Float.{binary64}
 use Rattle.std.specs.Float.Ieee.{of_bits}
 use Rattle.std.specs.Int.{w64}
@@ -14,7 +14,7 @@ use Rattle.value.specs.declared.Span.{Span}
 use Rattle.value.specs.declared.Value.{Value}
 use Rattle.value.specs.declared.Value.TheVariants.{Plain, Text, Array, Wrong}
 use Rattle.value.specs.declared.Fault.{Fault}
-use Rattle.value.specs.declared.Fault.TheVariants.{Fine, Outside, Unfit}
+use Rattle.value.specs.declared.Fault.TheVariants.{Outside, Unfit}
 use Rattle.value.specs.Cells.{cell_at}
 
 -- ---- what 32 bytes say
@@ -52,31 +52,26 @@ content_len v = (content_span v).len
 -- ---- "The checks: type (6, 7, 8 and above 9 give -7), span (-5), UTF-8 of a string (-7)."
 
 -- the paper's number for each case
-abbrev pub fault_number : Fault → ℤ
-fault_number Fine = pos 0
-fault_number Outside = negsuc 4
-fault_number Unfit = negsuc 6
-
-abbrev pub is_fine : Fault → Bool
-is_fine Fine = true
-is_fine Outside = false
-is_fine Unfit = false
+abbrev pub fault_number : {A : Type 0} → Result A Fault → ℤ
+fault_number (Ok x) = pos 0
+fault_number (Err Outside) = negsuc 4
+fault_number (Err Unfit) = negsuc 6
 
 -- "span (-5)"
-unfoldable pub span_fault : List ℕ → Span → Fault
-span_fault m s = cond (inside s.ptr s.len (length m)) Fine Outside
+unfoldable pub span_fault : List ℕ → Span → Result ⊤ Fault
+span_fault m s = cond (inside s.ptr s.len (length m)) (Ok tt) (Err Outside)
 
 -- "span (-5), UTF-8 of a string (-7)"
-unfoldable pub text_fault : List ℕ → Span → Fault
-text_fault m s = cond (inside s.ptr s.len (length m)) (cond (utf8 (part s.ptr s.len m)) Fine Unfit) Outside
+unfoldable pub text_fault : List ℕ → Span → Result ⊤ Fault
+text_fault m s = cond (inside s.ptr s.len (length m)) (cond (utf8 (part s.ptr s.len m)) (Ok tt) (Err Unfit)) (Err Outside)
 
 -- the type, and what the type asks for
-abbrev pub fault_of : List ℕ → Value → Fault
-fault_of m (Plain s) = Fine
+abbrev pub fault_of : List ℕ → Value → Result ⊤ Fault
+fault_of m (Plain s) = Ok tt
 fault_of m (Text s) = text_fault m s
 fault_of m (Array s) = span_fault m s
-fault_of m Wrong = Unfit
+fault_of m Wrong = Err Unfit
 
 -- the value at address p of a memory: its own 32 bytes have to be inside, too
-unfoldable pub value_fault : List ℕ → ℕ → Fault
-value_fault m p = cond (inside p 32 (length m)) (fault_of m (decoded (cell_at m p))) Outside
+unfoldable pub value_fault : List ℕ → ℕ → Result ⊤ Fault
+value_fault m p = cond (inside p 32 (length m)) (fault_of m (decoded (cell_at m p))) (Err Outside)

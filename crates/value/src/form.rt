@@ -13,12 +13,14 @@ pub fn good_stored(b: &[u8]) -> bool
     }
     let c = crate::cell::read_cell(b, 0);
     let v = crate::decode::decode(c);
-    let k = crate::check::check_decoded(b, v);
-    if k.len != b.len() as u64 {
+    let Ok(len) = crate::check::check_decoded(b, v) else {
+        return false;
+    };
+    if len != b.len() as u64 {
         return false;
     }
     let d = crate::store::stored_cell(c.flags, v);
-    if crate::cell::same_cell(c, d) {
+    if c == d {
         le::zero_between(b, Cell::UNUSED, Cell::SIZE)
     } else {
         false

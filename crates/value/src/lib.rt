@@ -35,17 +35,9 @@ impl Value {
     pub const SIZE: u64 = Cell::SIZE as u64;
 }
 
-// What a check finds: nothing, a span outside memory (-5), or a type or content that may not be (-7).
+// What is wrong with a value: a span outside memory (-5), or a type or content that may not be (-7).
 #[derive(Clone, Copy)]
 pub enum Fault {
-    Fine,
     Outside,
     Unfit,
-}
-
-// What a check finds of a value, and the length of its payload, 0 where there is a fault.
-#[derive(Clone, Copy)]
-pub struct Checked {
-    pub fault: Fault,
-    pub len: u64,
 }

@@ -1,9 +1,8 @@
 // The stored form, written.
-ghost use Rattle.std.specs.Prelude.{◌≡◌, ◌+◌, ◌≤◌, length};
+ghost use Rattle.std.specs.Prelude.{◌≡◌, ◌+◌, ◌≤◌, length, Ok};
 ghost use Rattle.le.specs.Splice.{splice, wholly};
 ghost use Rattle.value.specs.Values.{value_fault};
 ghost use Rattle.value.specs.Forms.{cell_of, payload};
-ghost use Rattle.value.specs.declared.Fault.TheVariants.{Fine};
 
 use crate::Value;
 use crate::cell::Cell;
@@ -37,7 +36,7 @@ pub(crate) fn stored_cell(flags: u32, v: Value) -> Cell
 
 // The payload of the value at p, for a caller that has had `check_value` find no fault, and has room for as many bytes as it said.
 pub fn put_value(m: &[u8], p: u64, out: &mut [u8], at: usize)
-    requires p_value { value_fault m.now p ≡ Fine }
+    requires p_value { value_fault m.now p ≡ Ok tt }
     requires p_in_bounds { at + length (payload m.now p) ≤ length out.old }
     ensures { out.new ≡ splice out.old at (payload m.now p) }
 {
@@ -55,11 +54,9 @@ pub fn put_value(m: &[u8], p: u64, out: &mut [u8], at: usize)
 pub fn store_value(m: &[u8], p: u64, out: &mut [u8], at: usize)
     ensures { out.new ≡ wholly out.old at (payload m.now p) }
 {
-    let k = crate::check::check_value(m, p);
-    let n = k.len;
-    if n == 0 {
+    let Ok(n) = crate::check::check_value(m, p) else {
         return;
-    }
+    };
     if out.len() < at {
         return;
     }

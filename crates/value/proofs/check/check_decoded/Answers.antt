@@ -1,16 +1,26 @@
 -- `value::check::check_decoded` meets its contract: the bytes of a value with no fault lie in memory, so that 32 more is no overflow. Assumes nothing.
+use mathlib.Core.Path.{◌≡◌, sym, ap, ◌∙◌}
+use Prim.Native.Nat.{◌+◌, ◌≤◌}
 use native.Mathlib.Omega.{arith}
-use Rattle.value.proofs.FormLaws.{checked-end, checked-fine, checked-not}
+use borrow.Author.Rules.{rules}
+use lib.ListN.{length}
+use Rattle.std.specs.Prelude.{Err}
+use Rattle.value.specs.Forms.{checked_of}
+use Rattle.value.proofs.FaultLaws.{content-end}
 use Rattle.value.proofs.check.check_decoded.Goals as goal
+
+pub returns-in_err-fault_of : goal.returns-in_err-fault_of
+unfolding checked_of
+returns-in_err-fault_of c =
+    let r : c.from_residual.result ≡ Err c.in_err-fault_of.field-0.0 = search rules in
+    r ∙ simp (← c.fault_of.ensures, c.in_err-fault_of.was)
 
 pub overflow_add-result : goal.overflow_add-result
 overflow_add-result c =
-    omega (arith, checked-end c.args.m.now c.args.v _ _ c.fault_of-f.ensures c.fine.ensures _ c.if-fine.true c.content_span-s.ensures)
-
-pub returns-then-fine : goal.returns-then-fine
-returns-then-fine c =
-    checked-fine c.args.m.now c.args.v _ _ c.fault_of-f.ensures c.fine.ensures _ c.if-fine.true c.content_span-s.ensures
+    let s = c.content_span-s.result in
+    let e : s.ptr + s.len ≤ length c.args.m.now = rw c.content_span-s.ensures (content-end _ _ (sym c.fault_of.ensures ∙ c.in_ok-fault_of.was)) in
+    omega (arith, e)
 
 pub returns : goal.returns
-returns c =
-    checked-not c.args.m.now c.args.v _ _ c.fault_of-f.ensures c.fine.ensures c.if-fine.false
+unfolding checked_of
+returns c = simp (← c.fault_of.ensures, c.in_ok-fault_of.was, c.content_span-s.ensures)
