@@ -1,5 +1,5 @@
 // Numbers: spans, flags, decimal numbers read and written, a record's size, little-endian.
-use crate::texts::{compared, shown};
+use crate::texts::compared;
 use cases::{half, number, size};
 use saying::{answer, result, word};
 use streams::Streams;
@@ -59,7 +59,10 @@ pub(crate) fn case(streams: &mut Streams, l: &[u8]) {
         b"number" => read(streams, field(l, 1)),
         b"written" => written(streams, number(l, 1), size(l, 3)),
         b"total_len" => result(streams, total_len(half(l, 1), half(l, 2))),
-        b"bytes" => shown(streams, &sixteen()),
+        b"bytes" => {
+            saying::bytes(streams, &sixteen());
+            word(streams, b"\n");
+        }
         b"u32 at" => half_at(streams, size(l, 1)),
         b"u64 at" => word_at(streams, size(l, 1)),
         _ => compared(streams, l),

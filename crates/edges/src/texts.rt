@@ -1,4 +1,6 @@
 // Bytes as texts, topics, lines and fields.
+ghost use Rattle.std.specs.Prelude.{◌<◌};
+
 use crate::numbers;
 use cases::{bytes, size};
 use saying::{answer, result, word};
@@ -8,7 +10,7 @@ use text::topic::{card_topic, good_filter, good_topic};
 use text::utf8::valid;
 
 // Bytes, at the end of a line that asks for them.
-pub(crate) fn shown(streams: &mut Streams, s: &[u8]) {
+fn shown(streams: &mut Streams, s: &[u8]) {
     word(streams, b":");
     saying::bytes(streams, s);
     word(streams, b"\n");
@@ -28,21 +30,25 @@ fn long(l: &[u8]) -> &'static [u8] {
     le::front(&[b'a'; 2049], size(l, 1))
 }
 
-// Whether n letters with these bytes over them, from a place on, are UTF-8. There are 64 letters: a case has to fit.
+// Whether these bytes are UTF-8 among n letters, over those from `at` on. There are 64 letters: a case has to fit.
 fn laid(s: &[u8], at: usize, n: usize) -> bool {
     let mut a = [b'a'; 64];
     le::lay(s, &mut a, at);
-    valid(le::front(&a, n))
+    valid(le::front(&a, n.saturating_add(s.len())))
 }
 
-// At how many of these places they are: among n letters.
-fn among(n: usize, s: &[u8]) -> usize {
-    (0..=n).filter(|at| laid(s, *at, n + s.len())).count()
+// At how many places among n letters, and behind them, they are.
+fn among(n: usize, s: &[u8]) -> usize
+    requires { n < 64 }
+{
+    (0..=n).filter(|at| laid(s, *at, n)).count()
 }
 
-// The same behind as many letters as the place says, at the end.
-fn behind(n: usize, s: &[u8]) -> usize {
-    (0..=n).filter(|at| laid(s, *at, *at + s.len())).count()
+// Behind how many of 0 to n letters.
+fn behind(n: usize, s: &[u8]) -> usize
+    requires { n < 64 }
+{
+    (0..=n).filter(|at| laid(s, *at, *at)).count()
 }
 
 pub(crate) fn case(streams: &mut Streams, l: &[u8]) {
