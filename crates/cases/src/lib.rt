@@ -3,12 +3,14 @@
 
 ghost use Rattle.std.specs.Prelude.{◌≡◌, ◌%◌, ◌^◌, ◌<◌, ◌≤◌, length};
 ghost use Rattle.text.specs.Decimal.{number_of};
-ghost use Rattle.text.specs.Lines.{field, fields};
+ghost use Rattle.text.specs.Lines.{field};
 ghost use Rattle.cases.specs.Fields.{or_else};
+ghost use Rattle.cases.specs.Run.{Runs};
 
-use text::compare::same;
+use std::io;
+use streams::Streams;
 use text::decimal::{Number, read_number};
-use text::lines::{field, field_count};
+use text::lines::{field, line};
 
 // The number that field k is; another where it is none.
 pub fn number_or(l: &[u8], k: usize, other: u64) -> u64
@@ -45,63 +47,45 @@ pub fn half(l: &[u8], k: usize) -> u32
 fn digit(b: u8) -> u64
     ensures { result < 16 }
 {
-    if b < 48 {
-        return 0;
+    match b {
+        b'0'..=b'9' => u64::from(b - b'0'),
+        b'a'..=b'f' => u64::from(b - b'a' + 10),
+        _ => 0,
     }
-    if b <= 57 {
-        return (b - 48) as u64;
-    }
-    if b < 97 {
-        return 0;
-    }
-    if b <= 102 {
-        return (b - 87) as u64;
-    }
-    0
 }
 
 // The number that the bytes write in base 16, of which the last 16 digits count.
 pub fn pattern(s: &[u8]) -> u64 {
-    let mut n: u64 = 0;
-    let mut i = 0;
-    while i < s.len() {
-        n = n % 1152921504606846976 * 16 + digit(s[i]);
-        i += 1;
-    }
-    n
+    s.iter().fold(0, |n, b| n << 4 | digit(*b))
 }
 
 // The bytes that pairs of digits write, a blank between each two, as far as there is room: how many they are.
 pub fn bytes(s: &[u8], out: &mut [u8]) -> usize
     ensures { result ≤ length out.new }
 {
-    let mut n = 0;
-    let mut i = 0;
-    while i < s.len() {
-        if out.len() <= n {
-            return n;
-        }
-        out[n] = (pattern(le::cut(s, i, 2)) % 256) as u8;
-        n += 1;
-        if s.len() - i < 3 {
-            return n;
-        }
-        i += 3;
+    let pairs = s.chunks(3);
+    let n = pairs.len().min(out.len());
+    for (b, pair) in out.iter_mut().zip(pairs) {
+        *b = (pattern(le::front(pair, 2)) & 0xFF) as u8;
     }
     n
 }
 
-// Which of a table's words this is, counted from 0; how many they are where it is none of them.
-pub fn which(table: &[u8], w: &[u8]) -> usize
-    ensures { result ≤ length (fields table.now) }
+// A program's run: each line of standard input, as far as the buffer has room for it, is a case. What all of it came to.
+pub fn run<F: FnMut(&mut Streams, &[u8])>(
+    mut streams: Streams,
+    buffer: &mut [u8],
+    mut case: F,
+) -> io::Result<()>
+    requires { F.IsAlwaysCallable case }
+    ensures { Runs F.FnMut case buffer.new result }
 {
-    let n = field_count(table);
-    let mut i = 0;
-    while i < n {
-        if same(field(table, i), w) {
-            return i;
-        }
-        i += 1;
+    let n = streams.read_full(buffer);
+    let mut rest = &buffer[..n];
+    while !rest.is_empty() {
+        let l = line(rest, 0);
+        case(&mut streams, l);
+        rest = le::tail(rest, l.len() + 1);
     }
-    n
+    streams.outcome()
 }

@@ -1,9 +1,13 @@
 // Numbers: spans, flags, decimal numbers read and written, a record's size, little-endian.
-use cases::{number, size};
+use crate::texts::compared;
+use cases::{half, number, size};
 use saying::{answer, result, word};
 use streams::Streams;
 use text::decimal::Number;
+use text::flags::good_flags;
 use text::lines::field;
+use text::sizes::total_len;
+use text::span::inside;
 
 fn read(streams: &mut Streams, s: &[u8]) {
     let n = text::decimal::read_number(s);
@@ -34,40 +38,33 @@ fn sixteen() -> [u8; 16] {
     b
 }
 
-// 5 the bytes, 6 the 32 bits at a place, 7 the 64 bits
-fn little_endian(streams: &mut Streams, k: usize, at: usize) {
-    let b = sixteen();
-    if k == 5 {
-        saying::bytes(streams, &b);
-        word(streams, b"\n");
-        return;
-    }
-    if 12 < at {
-        return;
-    }
-    if k == 6 {
-        result(streams, le::read_u32(&b, at) as u64);
-        return;
-    }
-    if at <= 8 {
-        result(streams, le::read_u64(&b, at));
+// The 32 bits at a place of them, where there are so many.
+fn half_at(streams: &mut Streams, at: usize) {
+    if at <= 12 {
+        result(streams, u64::from(le::read_u32(&sixteen(), at)));
     }
 }
 
-// 0 span ptr len in m, 1 flags f, 2 number s, 3 written n in room, 4 total_len topic payload; and those above.
-pub(crate) fn case(streams: &mut Streams, k: usize, l: &[u8]) {
-    match k {
-        0 => answer(
-            streams,
-            text::span::inside(number(l, 1), number(l, 2), number(l, 4)),
-        ),
-        1 => answer(streams, text::flags::good_flags(cases::half(l, 1))),
-        2 => read(streams, field(l, 1)),
-        3 => written(streams, number(l, 1), size(l, 3)),
-        4 => result(
-            streams,
-            text::sizes::total_len(cases::half(l, 1), cases::half(l, 2)),
-        ),
-        _ => little_endian(streams, k, size(l, 1)),
+// The 64 bits.
+fn word_at(streams: &mut Streams, at: usize) {
+    if at <= 8 {
+        result(streams, le::read_u64(&sixteen(), at));
+    }
+}
+
+pub(crate) fn case(streams: &mut Streams, l: &[u8]) {
+    match field(l, 0) {
+        b"span" => answer(streams, inside(number(l, 1), number(l, 2), number(l, 4))),
+        b"flags" => answer(streams, good_flags(half(l, 1))),
+        b"number" => read(streams, field(l, 1)),
+        b"written" => written(streams, number(l, 1), size(l, 3)),
+        b"total_len" => result(streams, total_len(half(l, 1), half(l, 2))),
+        b"bytes" => {
+            saying::bytes(streams, &sixteen());
+            word(streams, b"\n");
+        }
+        b"u32 at" => half_at(streams, size(l, 1)),
+        b"u64 at" => word_at(streams, size(l, 1)),
+        _ => compared(streams, l),
     }
 }

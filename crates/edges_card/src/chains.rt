@@ -9,22 +9,18 @@ pub(crate) fn chain(streams: &mut Streams, s: &[u8], first: u64, next: u64) {
     if 9223372036854775808 < first {
         return;
     }
-    let c = card::walk::check_chain(s, EventId(first));
-    match c {
-        Chain::Whole { next: n } => {
+    match card::walk::check_chain(s, EventId(first)) {
+        Chain::Whole { next } => {
             word(streams, b": whole, next");
-            number(streams, n.0);
+            number(streams, next.0);
         }
         Chain::Broken { at } => {
             word(streams, b": broken at");
             number(streams, at as u64);
         }
     }
-    if card::walk::chain_to(s, EventId(first), EventId(next)) {
-        word(streams, b": yes");
-    } else {
-        word(streams, b": no");
-    }
+    let goes = card::walk::chain_to(s, EventId(first), EventId(next));
+    word(streams, if goes { b": yes" } else { b": no" });
 }
 
 // chain at n first next: of n bytes from `at` on.

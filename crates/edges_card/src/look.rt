@@ -2,6 +2,7 @@
 use crate::chains;
 use crate::tables::table_of;
 use card::Found;
+use cases::size;
 use record::EventId;
 use saying::{number, word};
 use streams::Streams;
@@ -14,12 +15,8 @@ fn by_table<'a>(s: &'a [u8], table: &[u32], id: u64) -> &'a [u8] {
 
 // The staged record with a number.
 fn by_walk<'a>(s: &'a [u8], first: u64, id: u64) -> &'a [u8] {
-    let f = card::walk::find(s, EventId(first), EventId(id));
-    match f {
-        Found::At(at) => {
-            let n = le::read_u32(s, at) as usize;
-            le::cut(s, at, n)
-        }
+    match card::walk::find(s, EventId(first), EventId(id)) {
+        Found::At(at) => le::cut(s, at, le::read_u32(s, at) as usize),
         Found::Nothing => le::front(s, 0),
     }
 }
@@ -29,17 +26,12 @@ pub(crate) fn look(streams: &mut Streams, l: &[u8], card: &[u8]) {
     let table = table_of(le::front(card, 992), 1);
     let next = cases::number(l, 3);
     let id = cases::number(l, 4);
-    if id < next {
-        found(
-            streams,
-            by_table(le::front(card, cases::size(l, 1)), &table, id),
-        );
-        return;
-    }
-    found(
-        streams,
-        by_walk(le::cut(card, 992, cases::size(l, 2)), next, id),
-    );
+    let r = if id < next {
+        by_table(le::front(card, size(l, 1)), &table, id)
+    } else {
+        by_walk(le::cut(card, 992, size(l, 2)), next, id)
+    };
+    found(streams, r);
 }
 
 // The record's length and its own number, or that there is none.
@@ -57,10 +49,8 @@ fn found(streams: &mut Streams, r: &[u8]) {
 fn damaged(streams: &mut Streams, s: &[u8], table: &[u32]) {
     chains::chain(streams, s, 1, 7);
     word(streams, b":");
-    let mut id: u64 = 1;
-    while id < 7 {
+    for id in 1..7 {
         number(streams, by_table(s, table, id).len() as u64);
-        id += 1;
     }
     word(streams, b"\n");
 }
@@ -68,14 +58,14 @@ fn damaged(streams: &mut Streams, s: &[u8], table: &[u32]) {
 // set at b: the byte at `at` of the card becomes b, and is then what it was. The chain, whether it goes up to 7, and the length of each record that
 // look-up still gives, 0 where it gives none.
 pub(crate) fn set(streams: &mut Streams, l: &[u8], card: &mut [u8]) {
-    let at = cases::size(l, 1);
+    let at = size(l, 1);
     word(streams, l);
     if card.len() <= at {
         return;
     }
     let table = table_of(le::front(card, 992), 1);
     let was = card[at];
-    card[at] = (cases::number(l, 2) % 256) as u8;
+    card[at] = (cases::number(l, 2) & 0xFF) as u8;
     damaged(streams, le::front(card, 992), &table);
     card[at] = was;
 }

@@ -1,6 +1,5 @@
 // What cursors and reads list, page by page.
 use crate::show;
-use crate::show::Step;
 use crate::tables::table_of;
 use card::{Cursor, Numbers, Query, Way};
 use manifest::Manifest;
@@ -27,7 +26,7 @@ fn cursor(l: &[u8]) -> Cursor {
 
 // Of the first n bytes of the card, by the table of the whole of it; it is said to have the numbers below `next`. For a module: 1 may list one topic, 2
 // none, 3 all four.
-fn one(streams: &mut Streams, l: &[u8], card: &[u8], c: Cursor) -> Step {
+fn one(streams: &mut Streams, l: &[u8], card: &[u8], c: Cursor) -> Option<Cursor> {
     let text =
         b"modules\t3\ngrant\t1\tin\tloop/take\ngrant\t2\tout\tloop/take\ngrant\t3\tin\tloop/take\ngrant\t3\tin\ta\ngrant\t3\tin\tloop/mix\ngrant\t3\tin\tloop/take/2\n";
     let s = le::front(card, cases::size(l, 1));
@@ -55,14 +54,11 @@ pub(crate) fn page(streams: &mut Streams, l: &[u8], card: &[u8]) {
 // The same, page after page until the list has ended, 8 at most.
 pub(crate) fn pages(streams: &mut Streams, l: &[u8], card: &[u8]) {
     let mut at = cursor(l);
-    let mut i: u64 = 0;
-    while i < 8 {
-        i += 1;
-        let step = one(streams, l, card, at);
-        at = step.cursor;
-        if step.ended {
+    for _ in 0..8 {
+        let Some(next) = one(streams, l, card, at) else {
             return;
-        }
+        };
+        at = next;
     }
 }
 

@@ -8,62 +8,43 @@ use record::Header;
 use saying::{number, word};
 use streams::Streams;
 
-// The cursor after a page, and whether the list had ended.
-#[derive(Drop)]
-pub(crate) struct Step {
-    pub cursor: Cursor,
-    pub ended: bool,
-}
-
 // The pointer of the value that a record has.
 fn pointer(streams: &mut Streams, r: &[u8]) {
     if r.len() < 128 {
         return;
     }
-    let n = le::read_u32(r, Header::TOPIC_LEN);
-    let flags = le::read_u32(r, Header::FLAGS);
-    let at = Header::payload_at(n);
-    if flags == 2 {
-        if at + 16 <= r.len() {
-            word(streams, b" ptr");
-            number(streams, le::read_u64(r, at + 8));
-        }
+    let at = Header::payload_at(le::read_u32(r, Header::TOPIC_LEN));
+    if le::read_u32(r, Header::FLAGS) == 2 && at + 16 <= r.len() {
+        word(streams, b" ptr");
+        number(streams, le::read_u64(r, at + 8));
     }
 }
 
 // The numbers of the records that these bytes are, and where they point to.
 fn ids(streams: &mut Streams, page: &[u8]) {
-    let mut at: usize = 0;
-    while at < page.len() {
-        if page.len() - at < 16 {
-            return;
-        }
-        number(streams, le::read_u64(page, at + 8));
-        pointer(streams, le::tail(page, at));
-        let n = le::read_u32(page, at) as usize;
+    let mut rest = page;
+    while 16 <= rest.len() {
+        number(streams, le::read_u64(rest, 8));
+        pointer(streams, rest);
+        let n = le::read_u32(rest, 0) as usize;
         if n == 0 {
             return;
         }
-        at += n;
+        rest = le::tail(rest, n);
     }
 }
 
 // Memory outside of the page has the bytes that it had.
 fn kept(streams: &mut Streams, s: &[u8]) {
-    let mut i: usize = 0;
-    while i < s.len() {
-        if s[i] != 0xEE {
-            word(
-                streams,
-                b", and memory changed behind the page or before it",
-            );
-            return;
-        }
-        i += 1;
+    if s.iter().any(|b| *b != 0xEE) {
+        word(
+            streams,
+            b", and memory changed behind the page or before it",
+        );
     }
 }
 
-// What was found, and what now lies in memory from `out` on.
+// What was found, and what now lies in memory from `out` on. Whether the list has ended.
 fn found(streams: &mut Streams, p: Page, memory: &[u8], out: usize) -> bool {
     kept(streams, le::front(memory, out));
     match p {
@@ -106,15 +87,10 @@ fn stands(streams: &mut Streams, c: Cursor) {
 fn sound(p: Page) -> bool
     ensures { result ≡ true → p ≡ Fault → ⊥ }
 {
-    match p {
-        Page::Fault => false,
-        Page::End => true,
-        Page::Short => true,
-        Page::Bytes(_) => true,
-    }
+    !matches!(p, Page::Fault)
 }
 
-// The page that is asked for, at the address `out`, of the part s with its table.
+// The page that is asked for, at the address `out`, of the part s with its table: the cursor for the next one, none where the list has ended.
 pub(crate) fn page(
     streams: &mut Streams,
     s: &[u8],
@@ -123,36 +99,20 @@ pub(crate) fn page(
     places: &[usize],
     q: Query,
     out: usize,
-) -> Step
+) -> Option<Cursor>
     requires { CanWalk q s.now }
 {
-    let cap = q.cap;
-    let c = q.cursor;
-    if 1024 < cap {
-        return Step {
-            cursor: c,
-            ended: true,
-        };
-    }
-    if 1024 < out {
-        return Step {
-            cursor: c,
-            ended: true,
-        };
+    if 1024 < q.cap || 1024 < out {
+        return None;
     }
     let mut notes = [0usize; Page::NOTES];
     let p = card::pages::measure(s, table, text, places, q, &mut notes);
     let mut memory = [0xEEu8; 2048];
+    let mut after = q.cursor;
     if sound(p) {
-        let after = card::pages::copy_page(s, table, text, places, q, &mut memory, out);
-        let ended = found(streams, p, &memory, out);
-        stands(streams, after);
-        return Step {
-            cursor: after,
-            ended,
-        };
+        after = card::pages::copy_page(s, table, text, places, q, &mut memory, out);
     }
     let ended = found(streams, p, &memory, out);
-    stands(streams, c);
-    Step { cursor: c, ended }
+    stands(streams, after);
+    if ended { None } else { Some(after) }
 }

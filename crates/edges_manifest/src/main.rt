@@ -14,60 +14,35 @@
 mod making;
 mod show;
 
-use cases::{size, which};
+use cases::size;
+use making::Text;
 use std::io;
 use streams::Streams;
-use text::lines::{field, line};
+use text::lines::field;
 
-// What changes the text: how long it then is.
-fn made(k: usize, l: &[u8], text: &mut [u8], n: usize) -> usize {
-    match k {
-        0 => making::add(text, 0, field(l, 1)),
-        1 => making::add(text, 0, field(l, 1)),
-        2 => making::repeat(text, n, field(l, 2), size(l, 1)),
-        3 => making::grants(text, n, size(l, 1), size(l, 2)),
-        _ => n,
-    }
-}
-
-// What is said of it.
-fn said(streams: &mut Streams, k: usize, l: &[u8], text: &[u8]) {
-    match k {
-        0 => show::answer(streams, field(l, 1), text),
-        4 => show::answer(streams, field(l, 1), text),
-        5 => show::granted(streams, l, text, false),
-        6 => show::granted(streams, l, text, true),
-        7 => saying::word(streams, field(l, 1)),
-        8 => show::by_hand(streams, l),
+fn step(streams: &mut Streams, l: &[u8], text: &mut Text) {
+    match field(l, 0) {
+        b"read" => {
+            text.make(field(l, 1));
+            show::answer(streams, field(l, 1), text.made());
+        }
+        b"new" => text.make(field(l, 1)),
+        b"add" => text.repeat(field(l, 2), size(l, 1)),
+        b"grants" => text.grants(size(l, 1), size(l, 2)),
+        b"ask" => show::answer(streams, field(l, 1), text.made()),
+        b"in" => show::granted(streams, l, text.made(), false),
+        b"out" => show::granted(streams, l, text.made(), true),
+        b"label" => saying::word(streams, field(l, 1)),
+        b"hand" => show::by_hand(streams, l),
         _ => {}
     }
 }
 
-fn step(streams: &mut Streams, l: &[u8], text: &mut [u8], n: usize) -> usize {
-    let k = which(
-        b"read\tnew\tadd\tgrants\task\tin\tout\tlabel\thand",
-        field(l, 0),
-    );
-    let end = made(k, l, text, n);
-    said(streams, k, l, le::front(text, end));
-    end
-}
-
-fn each(streams: &mut Streams, input: &[u8], text: &mut [u8]) {
-    let mut n: usize = 0;
-    let mut at: usize = 0;
-    while at < input.len() {
-        let l = line(input, at);
-        n = step(streams, l, text, n);
-        at += l.len() + 1;
-    }
-}
-
 fn main(rt: HostRuntime) -> io::Result<()> {
-    let mut streams = Streams::of(rt.stdin(), rt.stdout());
-    let mut buffer = [0u8; 65536];
-    let n = streams.read_full(&mut buffer);
-    let mut text = [0u8; 132000];
-    each(&mut streams, &buffer[..n], &mut text);
-    streams.outcome()
+    let mut text = Text::new();
+    cases::run(
+        Streams::of(rt.stdin(), rt.stdout()),
+        &mut [0; 65536],
+        |streams, l| step(streams, l, &mut text),
+    )
 }

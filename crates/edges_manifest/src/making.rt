@@ -1,67 +1,66 @@
 // Texts of manifests, from how they are shown.
-ghost use Rattle.std.specs.Prelude.{◌≤◌};
-
 use cases::pattern;
 
-// By how many bytes one is shown that begins with this one.
-fn width(b: u8) -> usize
-    ensures upper_bound { result ≤ 4 }
-    ensures lower_bound { 1 ≤ result }
-{
-    if b == b'<' {
-        return 4;
-    }
-    1
+// The text that is made, and how long it is.
+#[derive(Drop)]
+pub(crate) struct Text {
+    bytes: [u8; 132000],
+    len: usize,
 }
 
-// The byte that is shown from i on.
-fn shown(s: &[u8], i: usize) -> u8 {
-    if s.len() <= i {
-        return 0;
-    }
-    match s[i] {
-        b'|' => b'\t',
-        b';' => b'\n',
-        b'<' => (pattern(le::cut(le::tail(s, i), 1, 2)) % 256) as u8,
-        _ => s[i],
-    }
-}
-
-// What is shown by s, behind the first `from` bytes: where it ends.
-pub(crate) fn add(text: &mut [u8], from: usize, s: &[u8]) -> usize {
-    let mut at = from;
-    let mut i = 0;
-    while i < s.len() {
-        if text.len() <= at {
-            return at;
+impl Text {
+    pub(crate) fn new() -> Text {
+        Text {
+            bytes: [0; 132000],
+            len: 0,
         }
-        text[at] = shown(s, i);
-        at += 1;
-        i += width(s[i]);
     }
-    at
-}
 
-// The same, so many times.
-pub(crate) fn repeat(text: &mut [u8], from: usize, s: &[u8], times: usize) -> usize {
-    let mut at = from;
-    let mut i = 0;
-    while i < times {
-        at = add(text, at, s);
-        i += 1;
+    pub(crate) fn made(&self) -> &[u8] {
+        le::front(&self.bytes, self.len)
     }
-    at
-}
 
-// Grants with a topic of n bytes: n + 12 bytes each.
-pub(crate) fn grants(text: &mut [u8], from: usize, times: usize, n: usize) -> usize {
-    let mut at = from;
-    let mut i = 0;
-    while i < times {
-        let topic = add(text, at, b"grant|1|in|");
-        let end = repeat(text, topic, b"t", n);
-        at = add(text, end, b";");
-        i += 1;
+    fn push(&mut self, b: u8) {
+        if self.len < self.bytes.len() {
+            self.bytes[self.len] = b;
+            self.len += 1;
+        }
     }
-    at
+
+    // Behind it what is shown by s, as far as there is room.
+    fn add(&mut self, s: &[u8]) {
+        let mut rest = s;
+        while let [b, behind @ ..] = rest {
+            let (byte, width) = match *b {
+                b'|' => (b'\t', 1),
+                b';' => (b'\n', 1),
+                b'<' => ((pattern(le::front(behind, 2)) & 0xFF) as u8, 4),
+                b => (b, 1),
+            };
+            self.push(byte);
+            rest = le::tail(rest, width);
+        }
+    }
+
+    // What is shown by s, and nothing before it.
+    pub(crate) fn make(&mut self, s: &[u8]) {
+        self.len = 0;
+        self.add(s);
+    }
+
+    // Behind it what is shown by s, so many times.
+    pub(crate) fn repeat(&mut self, s: &[u8], times: usize) {
+        for _ in 0..times {
+            self.add(s);
+        }
+    }
+
+    // Grants with a topic of n bytes: n + 12 bytes each.
+    pub(crate) fn grants(&mut self, times: usize, n: usize) {
+        for _ in 0..times {
+            self.add(b"grant|1|in|");
+            self.repeat(b"t", n);
+            self.add(b";");
+        }
+    }
 }

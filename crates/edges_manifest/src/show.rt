@@ -6,7 +6,6 @@ use manifest::grant::Grant;
 use manifest::head::Head;
 use saying::word;
 use streams::Streams;
-use text::compare::same;
 use text::lines::field;
 
 fn edition(charge: Charge) -> u64 {
@@ -20,29 +19,23 @@ fn edition(charge: Charge) -> u64 {
 pub(crate) fn answer(streams: &mut Streams, label: &[u8], text: &[u8]) {
     word(streams, label);
     let m = Manifest::read(text);
-    if m.good {
-        word(streams, b": good, modules");
-        let head = m.head;
-        saying::number(streams, head.modules);
-        word(streams, b", charge");
-        let charge = head.charge;
-        saying::number(streams, edition(charge));
-        word(streams, b", grants");
-        saying::number(streams, m.count as u64);
-        word(streams, b"\n");
+    if !m.good {
+        word(streams, b": bad\n");
         return;
     }
-    word(streams, b": bad\n");
+    word(streams, b": good, modules");
+    saying::number(streams, m.head.modules);
+    word(streams, b", charge");
+    saying::number(streams, edition(m.head.charge));
+    word(streams, b", grants");
+    saying::number(streams, m.count as u64);
+    word(streams, b"\n");
 }
 
 // What a manifest of the text grants a module; `out` or else `in`.
 fn ask(streams: &mut Streams, m: Manifest, text: &[u8], module: &[u8], out: bool, topic: &[u8]) {
     word(streams, module);
-    if out {
-        word(streams, b" out ");
-    } else {
-        word(streams, b" in ");
-    }
+    word(streams, if out { b" out " } else { b" in " });
     word(streams, topic);
     saying::answer(streams, m.granted(text, number(module, 0), out, topic));
 }
@@ -67,13 +60,12 @@ pub(crate) fn by_hand(streams: &mut Streams, l: &[u8]) {
         holder: 1,
         out: false,
     };
-    let head = Head {
-        modules: 1,
-        charge: Charge::Second,
-    };
     let m = Manifest {
         good: true,
-        head,
+        head: Head {
+            modules: 1,
+            charge: Charge::Second,
+        },
         count: 0xFFFF_FFFF_FFFF_FFFF,
         grants: [far; 64],
     };
@@ -83,7 +75,7 @@ pub(crate) fn by_hand(streams: &mut Streams, l: &[u8]) {
         m,
         b"modules\t1\n",
         field(l, 2),
-        same(field(l, 1), b"out"),
+        field(l, 1) == b"out".as_slice(),
         field(l, 3),
     );
 }

@@ -14,44 +14,25 @@ mod questions;
 mod samples;
 mod shown;
 
-use cases::{half, number, size, which};
+use cases::{half, number, size};
+use samples::Sample;
 use std::io;
 use streams::Streams;
-use text::lines::{field, line};
-
-fn of_sample(streams: &mut Streams, k: usize, sample: u32, l: &[u8]) {
-    samples::name(streams, sample);
-    match k {
-        0 => questions::field(streams, sample, size(l, 2), size(l, 3)),
-        1 => questions::part(streams, sample, size(l, 2), number(l, 3)),
-        2 => questions::byte(streams, sample, size(l, 2), number(l, 3)),
-        _ => shown::shown(streams, sample, half(l, 2), number(l, 3)),
-    }
-}
+use text::lines::field;
 
 fn case(streams: &mut Streams, l: &[u8]) {
-    let k = which(b"field\tpart\tbyte\tshown\tnamed\tlong", field(l, 0));
-    match k {
-        4 => named::named(streams, field(l, 2), number(l, 1)),
-        5 => named::long(streams, size(l, 1)),
-        6 => {}
-        _ => of_sample(streams, k, half(l, 1), l),
-    }
-}
-
-fn each(streams: &mut Streams, text: &[u8]) {
-    let mut at: usize = 0;
-    while at < text.len() {
-        let l = line(text, at);
-        case(streams, l);
-        at += l.len() + 1;
+    let sample = Sample::numbered(half(l, 1));
+    match field(l, 0) {
+        b"field" => questions::field(streams, sample, size(l, 2), size(l, 3)),
+        b"part" => questions::part(streams, sample, size(l, 2), number(l, 3)),
+        b"byte" => questions::byte(streams, sample, size(l, 2), number(l, 3)),
+        b"shown" => shown::shown(streams, sample, half(l, 2), number(l, 3)),
+        b"named" => named::named(streams, field(l, 2), number(l, 1)),
+        b"long" => named::long(streams, size(l, 1)),
+        _ => {}
     }
 }
 
 fn main(rt: HostRuntime) -> io::Result<()> {
-    let mut streams = Streams::of(rt.stdin(), rt.stdout());
-    let mut buffer = [0u8; 65536];
-    let n = streams.read_full(&mut buffer);
-    each(&mut streams, &buffer[..n]);
-    streams.outcome()
+    cases::run(Streams::of(rt.stdin(), rt.stdout()), &mut [0; 65536], case)
 }

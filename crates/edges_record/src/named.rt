@@ -16,7 +16,7 @@ fn sound(topic: &[u8], agent: u64) -> bool {
     record::good::good_record(le::front(&b, n), EventId(9))
 }
 
-pub fn named(streams: &mut Streams, topic: &[u8], agent: u64) {
+pub(crate) fn named(streams: &mut Streams, topic: &[u8], agent: u64) {
     word(streams, b"agent");
     number(streams, agent);
     word(streams, b", topic ");
@@ -25,9 +25,8 @@ pub fn named(streams: &mut Streams, topic: &[u8], agent: u64) {
 }
 
 // A topic of so many `a`s.
-pub fn long(streams: &mut Streams, n: usize) {
-    let a = [97u8; 2049];
+pub(crate) fn long(streams: &mut Streams, n: usize) {
     word(streams, b"a topic of");
     number(streams, n as u64);
-    saying::good(streams, sound(le::front(&a, n), 1));
+    saying::good(streams, sound(le::front(&[b'a'; 2049], n), 1));
 }

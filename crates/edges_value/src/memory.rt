@@ -1,8 +1,12 @@
 // Values of a memory: checked, stored, tested, shown.
 use crate::say;
+use cases::{half, pattern};
 use saying::word;
 use streams::Streams;
+use text::lines::field;
 use value::Checked;
+use value::check::check_value;
+use value::store::store_value;
 
 // A memory of 2,048 bytes. At 16 a value with flags 11, whose last eight bytes are not 0; at 64 a text, behind it what is no text; all else is `a`.
 fn memory(kind: u32, first: u64, second: u64) -> [u8; 2048] {
@@ -23,7 +27,7 @@ fn memory(kind: u32, first: u64, second: u64) -> [u8; 2048] {
 
 fn accepted(streams: &mut Streams, m: &[u8; 2048], len: u64) {
     let mut out = [0xA5u8; 2100];
-    value::store::store_value(m, 16, &mut out, 8);
+    store_value(m, 16, &mut out, 8);
     saying::number(streams, len);
     word(streams, b" bytes:");
     say::numbers(streams, &out);
@@ -39,40 +43,38 @@ fn accepted(streams: &mut Streams, m: &[u8; 2048], len: u64) {
 
 fn refused(streams: &mut Streams, m: &[u8; 2048], k: Checked) {
     let mut out = [0xA5u8; 2100];
-    value::store::store_value(m, 16, &mut out, 8);
-    let f = k.fault;
-    say::code(streams, f);
-    if le::read_u64(&out, 8) == 0xA5A5_A5A5_A5A5_A5A5 {
-        word(streams, b", nothing stored");
-    } else {
-        word(streams, b", but stored");
-    }
+    store_value(m, 16, &mut out, 8);
+    say::code(streams, k.fault);
+    let stored = le::read_u64(&out, 8) != 0xA5A5_A5A5_A5A5_A5A5;
+    word(
+        streams,
+        if stored {
+            b", but stored"
+        } else {
+            b", nothing stored"
+        },
+    );
 }
 
-pub fn asks(streams: &mut Streams, l: &[u8]) {
-    let first = cases::pattern(text::lines::field(l, 3));
-    let second = cases::pattern(text::lines::field(l, 4));
-    let m = memory(cases::half(l, 2), first, second);
-    let k = value::check::check_value(&m, 16);
-    let len = k.len;
-    if len == 0 {
+pub(crate) fn asks(streams: &mut Streams, l: &[u8]) {
+    let m = memory(half(l, 2), pattern(field(l, 3)), pattern(field(l, 4)));
+    let k = check_value(&m, 16);
+    if k.len == 0 {
         refused(streams, &m, k);
     } else {
-        accepted(streams, &m, len);
+        accepted(streams, &m, k.len);
     }
 }
 
-pub fn address(streams: &mut Streams, p: u64) {
-    let m = memory(2, 5, 0);
-    let k = value::check::check_value(&m, p);
-    let f = k.fault;
-    say::code(streams, f);
+pub(crate) fn address(streams: &mut Streams, p: u64) {
+    let k = check_value(&memory(2, 5, 0), p);
+    say::code(streams, k.fault);
 }
 
 // A string of 3 takes 35 bytes: into a buffer of 40, from `at` on.
-pub fn room(streams: &mut Streams, at: usize) {
+pub(crate) fn room(streams: &mut Streams, at: usize) {
     let m = memory(5, 67, 3);
     let mut out = [0xA5u8; 40];
-    value::store::store_value(&m, 16, &mut out, at);
+    store_value(&m, 16, &mut out, at);
     saying::pattern(streams, le::read_u64(&out, 8));
 }

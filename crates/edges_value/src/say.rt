@@ -3,33 +3,31 @@ use saying::{pattern, word};
 use streams::Streams;
 use value::Fault;
 
-pub fn code(streams: &mut Streams, f: Fault) {
-    match f {
-        Fault::Fine => word(streams, b" 0"),
-        Fault::Outside => word(streams, b" -5"),
-        Fault::Unfit => word(streams, b" -7"),
-    }
+// A fault, by its number.
+pub(crate) fn code(streams: &mut Streams, f: Fault) {
+    let code: &[u8] = match f {
+        Fault::Fine => b" 0",
+        Fault::Outside => b" -5",
+        Fault::Unfit => b" -7",
+    };
+    word(streams, code);
 }
 
-pub fn good(streams: &mut Streams, yes: bool) {
-    if yes {
-        word(streams, b" good");
-    } else {
-        word(streams, b" not good");
-    }
+pub(crate) fn good(streams: &mut Streams, yes: bool) {
+    word(streams, if yes { b" good" } else { b" not good" });
 }
 
 // The 32 bytes at 8, as type, flags, the union's two numbers, and the last eight bytes.
-pub fn numbers(streams: &mut Streams, out: &[u8; 2100]) {
-    pattern(streams, le::read_u32(out, 8) as u64);
-    pattern(streams, le::read_u32(out, 12) as u64);
+pub(crate) fn numbers(streams: &mut Streams, out: &[u8; 2100]) {
+    pattern(streams, u64::from(le::read_u32(out, 8)));
+    pattern(streams, u64::from(le::read_u32(out, 12)));
     pattern(streams, le::read_u64(out, 16));
     pattern(streams, le::read_u64(out, 24));
     pattern(streams, le::read_u64(out, 32));
 }
 
 // The four bytes behind them; a5 is a byte that nobody wrote.
-pub fn behind(streams: &mut Streams, out: &[u8; 2100]) {
+pub(crate) fn behind(streams: &mut Streams, out: &[u8; 2100]) {
     word(streams, b", then");
     saying::bytes(streams, le::cut(out, 40, 4));
     word(streams, b";");

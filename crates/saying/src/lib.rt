@@ -19,27 +19,17 @@ pub fn pattern(streams: &mut Streams, n: u64) {
     streams.hex(n);
 }
 
-fn wide(b: u8) -> u64 {
-    b as u64
-}
-
 // The bytes, each behind a blank, as two digits of base 16.
 pub fn bytes(streams: &mut Streams, s: &[u8]) {
-    let mut i = 0;
-    while i < s.len() {
+    for b in s {
         word(streams, b" ");
-        streams.hex_byte(wide(s[i]));
-        i += 1;
+        streams.hex_byte(u64::from(*b));
     }
 }
 
 // One of two words, and the end of the line.
 pub fn either(streams: &mut Streams, yes: bool, one: &[u8], other: &[u8]) {
-    if yes {
-        word(streams, one);
-    } else {
-        word(streams, other);
-    }
+    word(streams, if yes { one } else { other });
     word(streams, b"\n");
 }
 
@@ -61,13 +51,10 @@ pub fn result(streams: &mut Streams, n: u64) {
 
 // A line's fields, a blank between each two.
 pub fn echo(streams: &mut Streams, l: &[u8]) {
-    let mut i = 0;
-    while i < l.len() {
-        let e = text::lines::find(l, i, b'\t');
-        word(streams, le::cut(l, i, e - i));
-        if e < l.len() {
+    for (k, f) in l.split(|b| *b == b'\t').enumerate() {
+        if 0 < k {
             word(streams, b" ");
         }
-        i = e + 1;
+        word(streams, f);
     }
 }

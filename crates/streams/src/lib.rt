@@ -63,53 +63,41 @@ impl Streams {
         done
     }
 
-    // What a write came to: its error is kept.
-    fn keep(&mut self, written: io::Result<()>)
-        ensures ok { IsOk written → self.new.failed ≡ self.old.failed }
-        ensures err { IfErr written (λ e. self.new.failed ≡ Some e) }
+    // One write, where nothing has failed yet; its error is kept.
+    fn put<F: FnOnce(&mut Stdout) -> io::Result<()>>(&mut self, write: F)
+        requires { F.IsAlwaysCallable write }
+        ensures { IsSome self.old.failed → self.new.failed ≡ self.old.failed }
     {
-        if let Err(e) = written {
-            self.failed = Some(e);
+        if self.failed.is_none() {
+            self.failed = write(&mut self.output).err();
         }
     }
 
     pub fn write(&mut self, text: &[u8])
         ensures { IsSome self.old.failed → self.new.failed ≡ self.old.failed }
     {
-        if self.failed.is_none() {
-            let written = self.output.write_all(text);
-            self.keep(written);
-        }
+        self.put(|output| output.write_all(text));
     }
 
     // A number, in base 10.
     pub fn decimal(&mut self, n: u64)
         ensures { IsSome self.old.failed → self.new.failed ≡ self.old.failed }
     {
-        if self.failed.is_none() {
-            let written = print!(self.output; "{n}");
-            self.keep(written);
-        }
+        self.put(|output| print!(output; "{n}"));
     }
 
     // A number in base 16.
     pub fn hex(&mut self, n: u64)
         ensures { IsSome self.old.failed → self.new.failed ≡ self.old.failed }
     {
-        if self.failed.is_none() {
-            let written = print!(self.output; "{n:x}");
-            self.keep(written);
-        }
+        self.put(|output| print!(output; "{n:x}"));
     }
 
     // The same, with a zero in front of a single digit: the two digits of a byte.
     pub fn hex_byte(&mut self, n: u64)
         ensures { IsSome self.old.failed → self.new.failed ≡ self.old.failed }
     {
-        if self.failed.is_none() {
-            let written = print!(self.output; "{n:02x}");
-            self.keep(written);
-        }
+        self.put(|output| print!(output; "{n:02x}"));
     }
 
     // What all of it came to.

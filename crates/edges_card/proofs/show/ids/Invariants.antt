@@ -1,9 +1,6 @@
 -- `edges_card::show::ids` is safe and ends. Assumes nothing.
-use Rattle.std.proofs.Common.{length, ◌+◌, ◌-◌, ◌≤◌}
+use Rattle.std.proofs.Common.{length}
 use Rattle.edges_card.proofs.show.ids.Given as goal
 
-abbrev pub invariant-loop-at : goal.invariant-loop-at
-invariant-loop-at l = l.at ≤ length l.page + 4294967295
-
-abbrev pub decreases-loop-at : goal.decreases-loop-at
-decreases-loop-at l = length l.page + 4294967295 - l.at
+abbrev pub decreases-loop-rest : goal.decreases-loop-rest
+decreases-loop-rest l = length l.rest
