@@ -1,14 +1,14 @@
 -- Two results are equal, for the public functions of the rehearsal too (Determined.antt has the others and says what is meant).
 -- Assumes nothing.
-use mathlib.Core.Path.{◌≡◌, sym, ap, ◌∙◌}
+use mathlib.Core.Path.{◌≡◌, sym, ◌∙◌}
 use mathlib.Core.List.{List}
 use Prim.Native.Nat.{ℕ}
+use borrow.Fn.Kinds.{ParamKind, ResultKind, Dens, res_t, ended_of, Out}
+use denote.Triple.Clauses.{AtExit}
+use contract.Lifetimes.{Lfts}
 use Rattle.script.proofs as script
 use Rattle.script.specs.Saying.{Put}
 use Rattle.session.proofs as session
-use Rattle.session.specs.declared.Said.{Said}
-use Rattle.session.specs.declared.Session.{Session}
-use Rattle.session.specs.Sessions.{Answered, Buffers, Answers}
 use Rattle.promises.proofs.Determined.{ResultOnce, SeenOnce, meet, meet-0, meet-1}
 
 -- ---- contracts that say what was put
@@ -73,42 +73,30 @@ script-once = record {
 
 -- ---- the session
 
-said_same : (z z' : Said) → z.next ≡ z'.next → z.wrote ≡ z'.wrote → z ≡ z'
-said_same z z' p q = ap (λ (n : ℕ). record { wrote = n; next = z.next }) q ∙ ap (λ (s : Session). record { wrote = z'.wrote; next = s }) p
-
-module _ (a : Answered) (o : List ℕ) (z z' : Said) (b b' : Buffers) (o₁ o₂ : List ℕ) (p : Answers a z.next b o o₁ z.wrote) (q : Answers a z'.next b' o o₂ z'.wrote) where
-  answers-said : z ≡ z'
-  answers-said = said_same z z' (p.next ∙ sym q.next) (put-end o o₁ o₂ 0 a.said z.wrote z'.wrote p.said q.said)
-
-  answers-buffers : b ≡ b'
-  answers-buffers = p.buffers ∙ sym q.buffers
-
-  answers-out : o₁ ≡ o₂
-  answers-out = put-laid o o₁ o₂ 0 a.said z.wrote z'.wrote p.said q.said
+-- a value of another type than bytes, at two exits
+abbrev pub LeftOnce : {n : ℕ} {A : Type 0} (ps : List (ParamKind n)) (r : ResultKind n) → Out n ps r → ((κs : Lfts n) → (res_t r κs).Denot → AtExit (ended_of n ps r) κs → A) → Type 0
+LeftOnce {n} ps r Q seen =
+    (κs : Lfts n) (a : Dens κs ps) (z z' : (res_t r κs).Denot) (s s' : AtExit (ended_of n ps r) κs) → Q κs a z s → Q κs a z' s' → seen κs z s ≡ seen κs z' s'
 
 pub record SessionOnce : Type 0 where
+  pub buffers-fresh : ResultOnce session.Buffers.fresh.Kinds.ps session.Buffers.fresh.Kinds.r session.Buffers.fresh.Reads.Learnt
   pub fresh : ResultOnce session.Session.fresh.Kinds.ps session.Session.fresh.Kinds.r session.Session.fresh.Reads.Learnt
   pub answer : ResultOnce session.Session.answer.Kinds.ps session.Session.answer.Kinds.r session.Session.answer.Reads.Learnt
-  pub answer-memory : SeenOnce session.Session.answer.Kinds.ps session.Session.answer.Kinds.r session.Session.answer.Reads.Learnt (λ κs z s. s.1.1.0.now)
-  pub answer-staging : SeenOnce session.Session.answer.Kinds.ps session.Session.answer.Kinds.r session.Session.answer.Reads.Learnt (λ κs z s. s.1.1.1.0.now)
-  pub answer-card : SeenOnce session.Session.answer.Kinds.ps session.Session.answer.Kinds.r session.Session.answer.Reads.Learnt (λ κs z s. s.1.1.1.1.0.now)
-  pub answer-text : SeenOnce session.Session.answer.Kinds.ps session.Session.answer.Kinds.r session.Session.answer.Reads.Learnt (λ κs z s. s.1.1.1.1.1.0.now)
-  pub answer-index : SeenOnce session.Session.answer.Kinds.ps session.Session.answer.Kinds.r session.Session.answer.Reads.Learnt (λ κs z s. s.1.1.1.1.1.1.0.now)
-  pub answer-out : SeenOnce session.Session.answer.Kinds.ps session.Session.answer.Kinds.r session.Session.answer.Reads.Learnt (λ κs z s. s.1.1.1.1.1.1.1.0.now)
+  pub answer-session : LeftOnce session.Session.answer.Kinds.ps session.Session.answer.Kinds.r session.Session.answer.Reads.Learnt (λ κs z s. s.0.now)
+  pub answer-buffers : LeftOnce session.Session.answer.Kinds.ps session.Session.answer.Kinds.r session.Session.answer.Reads.Learnt (λ κs z s. s.1.1.0.now)
+  pub answer-out : SeenOnce session.Session.answer.Kinds.ps session.Session.answer.Kinds.r session.Session.answer.Reads.Learnt (λ κs z s. s.1.1.1.0.now)
   pub «end» : ResultOnce session.Session.end.Kinds.ps session.Session.end.Kinds.r session.Session.end.Reads.Learnt
   pub end-out : SeenOnce session.Session.end.Kinds.ps session.Session.end.Kinds.r session.Session.end.Reads.Learnt (λ κs z s. s.1.0.now)
   pub over : ResultOnce session.Session.over.Kinds.ps session.Session.over.Kinds.r session.Session.over.Reads.Learnt
 
 pub session-once : SessionOnce
 session-once = record {
+  buffers-fresh = search meet;
   fresh = search meet;
-  answer = λ κs a z z' s s' p q. answers-said _ _ z z' _ _ _ _ p q;
-  answer-memory = λ κs a z z' s s' p q. ap (λ (b : Buffers). b.memory) (answers-buffers _ _ z z' _ _ _ _ p q);
-  answer-staging = λ κs a z z' s s' p q. ap (λ (b : Buffers). b.staging) (answers-buffers _ _ z z' _ _ _ _ p q);
-  answer-card = λ κs a z z' s s' p q. ap (λ (b : Buffers). b.card) (answers-buffers _ _ z z' _ _ _ _ p q);
-  answer-text = λ κs a z z' s s' p q. ap (λ (b : Buffers). b.text) (answers-buffers _ _ z z' _ _ _ _ p q);
-  answer-index = λ κs a z z' s s' p q. ap (λ (b : Buffers). b.index) (answers-buffers _ _ z z' _ _ _ _ p q);
-  answer-out = λ κs a z z' s s' p q. answers-out _ _ z z' _ _ _ _ p q;
+  answer = λ κs a z z' s s' p q. put-end _ _ _ _ _ z z' p.said q.said;
+  answer-session = λ κs a z z' s s' p q. p.next ∙ sym q.next;
+  answer-buffers = λ κs a z z' s s' p q. p.buffers ∙ sym q.buffers;
+  answer-out = λ κs a z z' s s' p q. put-laid _ _ _ _ _ z z' p.said q.said;
   «end» = λ κs a z z' s s' p q. put-end _ _ _ _ _ z z' p q;
   end-out = λ κs a z z' s s' p q. put-laid _ _ _ _ _ z z' p q;
   over = search meet;
