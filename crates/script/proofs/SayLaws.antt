@@ -6,6 +6,7 @@ use mathlib.Core.List.{List, [], ◌∷◌, ◌++◌, append_assoc}
 use Prim.Native.Nat.{ℕ, zero, suc, ◌+◌, ◌/◌, ◌≤◌}
 use native.Mathlib.Omega.{arith}
 use lib.Dec.{ltb}
+use lib.IntN.{nat_abs}
 use lib.ListN.{length, set, length-append}
 use borrow.Author.Tests.{le-leb}
 use Rattle.le.specs.Splice.{wholly}
@@ -14,8 +15,8 @@ use Rattle.text.specs.Decimal.{higher, decimal}
 use Rattle.text.proofs.DigitLaws.{length_digits}
 use Rattle.weave.specs.declared.Code.{Code}
 use Rattle.weave.specs.declared.Code.TheVariants.{Fine, Denied, NotNow, Unsound, NoRoom, Bad, Budget, BadValue}
-use Rattle.weave.specs.Codes.{is_fine}
-use Rattle.script.specs.Saying.{Put, behind, printed, number_text, unsigned, answer_text}
+use Rattle.weave.specs.Codes.{is_fine, number}
+use Rattle.script.specs.Saying.{Put, behind, printed, number_text, answer_text}
 
 pub put-none : (s : List ℕ) (at : ℕ) → at ≤ length s → Put s s at [] at
 put-none s at h = record { laid = sym (splice-nil s at); ends = omega arith; whole = h }
@@ -67,7 +68,7 @@ answer-fine : (c : Code) (v : ℕ) → is_fine c ≡ true → answer_text c v �
 unfolding answer_text
 answer-fine c v e = rw e
 
-answer-refused : (c : Code) (v : ℕ) → is_fine c ≡ false → answer_text c v ≡ 45 ∷ decimal (unsigned c)
+answer-refused : (c : Code) (v : ℕ) → is_fine c ≡ false → answer_text c v ≡ 45 ∷ decimal (nat_abs (number c))
 unfolding answer_text number_text
 answer-refused Fine v e = let z : ◌≡◌ {A = ℕ} 0 1 = cc in absurd (omega arith)
 answer-refused Denied v e = refl
@@ -81,7 +82,7 @@ answer-refused BadValue v e = refl
 pub number_put : (s₀ s : List ℕ) (at r : ℕ) (c : Code) (v : ℕ) (t : Bool) → t ≡ is_fine c → t ≡ true → Put s₀ s at (9 ∷ decimal v) r → Put s₀ s at (9 ∷ answer_text c v) r
 number_put s₀ s at r c v t e f p = put_as s₀ s at r _ _ p (ap (λ (l : List ℕ). 9 ∷ l) (sym (answer-fine c v (sym e ∙ f))))
 
-pub code_put : (s₀ s₁ s₂ : List ℕ) (at a r : ℕ) (c : Code) (v n : ℕ) (t : Bool) → t ≡ is_fine c → t ≡ false → n ≡ unsigned c
+pub code_put : (s₀ s₁ s₂ : List ℕ) (at a r : ℕ) (c : Code) (v n : ℕ) (t : Bool) → t ≡ is_fine c → t ≡ false → n ≡ nat_abs (number c)
     → Put s₀ s₁ at (9 ∷ 45 ∷ []) a → Put s₁ s₂ a (decimal n) r → Put s₀ s₂ at (9 ∷ answer_text c v) r
 code_put s₀ s₁ s₂ at a r c v n t e f d p q =
     put_as s₀ s₂ at r _ _ (put_then s₀ s₁ s₂ at a r _ _ p q)

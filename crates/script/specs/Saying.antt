@@ -4,7 +4,7 @@ use Rattle.std.specs.Prelude.{◌≡◌, cond, List, [], ◌∷◌, ◌++◌, �
 use Rattle.le.specs.Splice.{splice}
 use Rattle.text.specs.Decimal.{decimal}
 use Rattle.weave.specs.declared.Code.{Code}
-use Rattle.weave.specs.declared.Code.TheVariants.{Fine, Denied, NotNow, Unsound, NoRoom, Bad, Budget, BadValue}
+use Rattle.weave.specs.declared.Code.TheVariants.{Fine}
 use Rattle.weave.specs.Codes.{is_fine, number}
 use Rattle.script.specs.Words.{bad_word, mount_word}
 
@@ -21,17 +21,6 @@ printed word fs = word ++ behind fs
 unfoldable pub number_text : ℤ → List ℕ
 number_text (pos n) = decimal n
 number_text (negsuc n) = 45 ∷ decimal (suc n)
-
--- a code's number without its sign (weave/Codes: `number` has the numbers; SayLaws: `answer-refused` ties the two)
-abbrev pub unsigned : Code → ℕ
-unsigned Fine = 0
-unsigned Denied = 1
-unsigned NotNow = 2
-unsigned Unsound = 3
-unsigned NoRoom = 4
-unsigned Bad = 5
-unsigned Budget = 6
-unsigned BadValue = 7
 
 -- what a call is answered with: its number, or the code it was refused with
 unfoldable pub answer_text : Code → ℕ → List ℕ

@@ -1,7 +1,7 @@
 // Lines printed into a buffer. Each function says where what it wrote ends.
 ghost use Rattle.std.specs.Prelude.{◌≡◌, [], ◌∷◌, ◌+◌, ◌≤◌, length};
 ghost use Rattle.text.specs.Decimal.{decimal};
-ghost use Rattle.script.specs.Saying.{Put, answer_text, unsigned, said_answer};
+ghost use Rattle.script.specs.Saying.{Put, answer_text, said_answer};
 
 use crate::Buffer;
 use weave::Code;
@@ -51,22 +51,6 @@ pub fn put_numeral(out: &mut [u8], at: usize, n: u64) -> usize
     put_digits(out, a, n)
 }
 
-// A code's number without its sign.
-fn unsigned(c: Code) -> u64
-    ensures { result ≡ unsigned c }
-{
-    match c {
-        Code::Fine => 0,
-        Code::Denied => 1,
-        Code::NotNow => 2,
-        Code::Unsound => 3,
-        Code::NoRoom => 4,
-        Code::Bad => 5,
-        Code::Budget => 6,
-        Code::BadValue => 7,
-    }
-}
-
 // What a call is answered with, and its tab.
 pub fn put_answer(out: &mut [u8], at: usize, c: Code, v: u64) -> usize
     requires { at + 22 ≤ length out.old }
@@ -77,7 +61,7 @@ pub fn put_answer(out: &mut [u8], at: usize, c: Code, v: u64) -> usize
         return put_numeral(out, at, v);
     }
     let a = put_field(out, at, b"-");
-    put_digits(out, a, unsigned(c))
+    put_digits(out, a, c.number().unsigned_abs())
 }
 
 // A word, and what a call is answered with.
