@@ -6,7 +6,7 @@ ghost use Rattle.pieces.specs.Feeding.{stand_of, Hears, is_name, end_said, close
 
 use crate::Play;
 use script::Buffer;
-use script::say::{put_byte, put_bytes};
+use script::say::Printer;
 use session::Session;
 use text::compare::starts_with;
 
@@ -34,12 +34,14 @@ impl Play {
         ensures play_value { self.new ≡ record self.old { session = fresh_session; named = true; held = 0 } }
         ensures put { Put out.old out.new 0 (end_said self.old.many self.old.named self.old.session ++ (take self.old.held self.old.line ++ (10 ∷ []))) result }
     {
-        let a = self.finish(out);
-        let b = put_bytes(out, a, le::front(&self.line, self.held));
+        let at = self.finish(out);
+        let mut p = Printer { out, at };
+        p.bytes(le::front(&self.line, self.held));
+        p.byte(b'\n');
         self.session = Session::fresh();
         self.named = true;
         self.held = 0;
-        put_byte(out, b, b'\n')
+        p.at
     }
 
     // The line that is held is whole: what it says is put at the front of `out`.

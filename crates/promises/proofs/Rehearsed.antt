@@ -11,6 +11,11 @@ use Rattle.script.specs.Saying.{Put}
 use Rattle.session.proofs as session
 use Rattle.promises.proofs.Determined.{ResultOnce, SeenOnce, meet, meet-0, meet-1}
 
+-- a value of another type than bytes, at two exits
+abbrev pub LeftOnce : {n : ℕ} {A : Type 0} (ps : List (ParamKind n)) (r : ResultKind n) → Out n ps r → ((κs : Lfts n) → (res_t r κs).Denot → AtExit (ended_of n ps r) κs → A) → Type 0
+LeftOnce {n} ps r Q seen =
+    (κs : Lfts n) (a : Dens κs ps) (z z' : (res_t r κs).Denot) (s s' : AtExit (ended_of n ps r) κs) → Q κs a z s → Q κs a z' s' → seen κs z s ≡ seen κs z' s'
+
 -- ---- contracts that say what was put
 
 put-end : (o o₁ o₂ : List ℕ) (at : ℕ) (bytes : List ℕ) (n k : ℕ) → Put o o₁ at bytes n → Put o o₂ at bytes k → n ≡ k
@@ -22,8 +27,6 @@ put-laid o o₁ o₂ at bytes n k p q = p.laid ∙ sym q.laid
 -- ---- the script
 
 pub record ScriptOnce : Type 0 where
-  pub events-put-events : ResultOnce script.events.put_events.Kinds.ps script.events.put_events.Kinds.r script.events.put_events.Reads.Learnt
-  pub events-put-events-out : SeenOnce script.events.put_events.Kinds.ps script.events.put_events.Kinds.r script.events.put_events.Reads.Learnt (λ κs z s. s.1.0.now)
   pub forms-code-of : ResultOnce script.forms.code_of.Kinds.ps script.forms.code_of.Kinds.r script.forms.code_of.Reads.Learnt
   pub line_read : ResultOnce script.forms.Line.read.Kinds.ps script.forms.Line.read.Kinds.r script.forms.Line.read.Reads.Learnt
   pub gather-gather : ResultOnce script.gather.gather.Kinds.ps script.gather.gather.Kinds.r script.gather.gather.Reads.Learnt
@@ -32,23 +35,23 @@ pub record ScriptOnce : Type 0 where
   pub laying-lay-write-memory : SeenOnce script.laying.lay_write.Kinds.ps script.laying.lay_write.Kinds.r script.laying.lay_write.Reads.Learnt (λ κs z s. s.0.now)
   pub laying-lay-open-memory : SeenOnce script.laying.lay_open.Kinds.ps script.laying.lay_open.Kinds.r script.laying.lay_open.Reads.Learnt (λ κs z s. s.0.now)
   pub laying-lay-next-memory : SeenOnce script.laying.lay_next.Kinds.ps script.laying.lay_next.Kinds.r script.laying.lay_next.Reads.Learnt (λ κs z s. s.0.now)
-  pub say-put-byte : ResultOnce script.say.put_byte.Kinds.ps script.say.put_byte.Kinds.r script.say.put_byte.Reads.Learnt
-  pub say-put-byte-out : SeenOnce script.say.put_byte.Kinds.ps script.say.put_byte.Kinds.r script.say.put_byte.Reads.Learnt (λ κs z s. s.0.now)
-  pub say-put-bytes : ResultOnce script.say.put_bytes.Kinds.ps script.say.put_bytes.Kinds.r script.say.put_bytes.Reads.Learnt
-  pub say-put-bytes-out : SeenOnce script.say.put_bytes.Kinds.ps script.say.put_bytes.Kinds.r script.say.put_bytes.Reads.Learnt (λ κs z s. s.0.now)
-  pub say-put-field : ResultOnce script.say.put_field.Kinds.ps script.say.put_field.Kinds.r script.say.put_field.Reads.Learnt
-  pub say-put-field-out : SeenOnce script.say.put_field.Kinds.ps script.say.put_field.Kinds.r script.say.put_field.Reads.Learnt (λ κs z s. s.0.now)
-  pub say-put-numeral : ResultOnce script.say.put_numeral.Kinds.ps script.say.put_numeral.Kinds.r script.say.put_numeral.Reads.Learnt
-  pub say-put-numeral-out : SeenOnce script.say.put_numeral.Kinds.ps script.say.put_numeral.Kinds.r script.say.put_numeral.Reads.Learnt (λ κs z s. s.0.now)
-  pub say-put-answer : ResultOnce script.say.put_answer.Kinds.ps script.say.put_answer.Kinds.r script.say.put_answer.Reads.Learnt
-  pub say-put-answer-out : SeenOnce script.say.put_answer.Kinds.ps script.say.put_answer.Kinds.r script.say.put_answer.Reads.Learnt (λ κs z s. s.0.now)
+  pub printer-byte : LeftOnce script.say.Printer.byte.Kinds.ps script.say.Printer.byte.Kinds.r script.say.Printer.byte.Reads.Learnt (λ κs z s. s.0.now.at)
+  pub printer-byte-out : SeenOnce script.say.Printer.byte.Kinds.ps script.say.Printer.byte.Kinds.r script.say.Printer.byte.Reads.Learnt (λ κs z s. s.0.now.out.now)
+  pub printer-bytes : LeftOnce script.say.Printer.bytes.Kinds.ps script.say.Printer.bytes.Kinds.r script.say.Printer.bytes.Reads.Learnt (λ κs z s. s.0.now.at)
+  pub printer-bytes-out : SeenOnce script.say.Printer.bytes.Kinds.ps script.say.Printer.bytes.Kinds.r script.say.Printer.bytes.Reads.Learnt (λ κs z s. s.0.now.out.now)
+  pub printer-field : LeftOnce script.say.Printer.field.Kinds.ps script.say.Printer.field.Kinds.r script.say.Printer.field.Reads.Learnt (λ κs z s. s.0.now.at)
+  pub printer-field-out : SeenOnce script.say.Printer.field.Kinds.ps script.say.Printer.field.Kinds.r script.say.Printer.field.Reads.Learnt (λ κs z s. s.0.now.out.now)
+  pub printer-numeral : LeftOnce script.say.Printer.numeral.Kinds.ps script.say.Printer.numeral.Kinds.r script.say.Printer.numeral.Reads.Learnt (λ κs z s. s.0.now.at)
+  pub printer-numeral-out : SeenOnce script.say.Printer.numeral.Kinds.ps script.say.Printer.numeral.Kinds.r script.say.Printer.numeral.Reads.Learnt (λ κs z s. s.0.now.out.now)
+  pub printer-answer : LeftOnce script.say.Printer.answer.Kinds.ps script.say.Printer.answer.Kinds.r script.say.Printer.answer.Reads.Learnt (λ κs z s. s.0.now.at)
+  pub printer-answer-out : SeenOnce script.say.Printer.answer.Kinds.ps script.say.Printer.answer.Kinds.r script.say.Printer.answer.Reads.Learnt (λ κs z s. s.0.now.out.now)
+  pub printer-events : LeftOnce script.say.Printer.events.Kinds.ps script.say.Printer.events.Kinds.r script.say.Printer.events.Reads.Learnt (λ κs z s. s.0.now.at)
+  pub printer-events-out : SeenOnce script.say.Printer.events.Kinds.ps script.say.Printer.events.Kinds.r script.say.Printer.events.Reads.Learnt (λ κs z s. s.0.now.out.now)
   pub say-say-answer : ResultOnce script.say.say_answer.Kinds.ps script.say.say_answer.Kinds.r script.say.say_answer.Reads.Learnt
   pub say-say-answer-out : SeenOnce script.say.say_answer.Kinds.ps script.say.say_answer.Kinds.r script.say.say_answer.Reads.Learnt (λ κs z s. s.0.now)
 
 pub script-once : ScriptOnce
 script-once = record {
-  events-put-events = λ κs a z z' s s' p q. put-end _ _ _ _ _ z z' p q;
-  events-put-events-out = λ κs a z z' s s' p q. put-laid _ _ _ _ _ _ _ p q;
   forms-code-of = search meet;
   line_read = search meet;
   gather-gather = search meet-0;
@@ -57,26 +60,23 @@ script-once = record {
   laying-lay-write-memory = search meet;
   laying-lay-open-memory = search meet;
   laying-lay-next-memory = search meet;
-  say-put-byte = λ κs a z z' s s' p q. put-end _ _ _ _ _ z z' p q;
-  say-put-byte-out = λ κs a z z' s s' p q. put-laid _ _ _ _ _ _ _ p q;
-  say-put-bytes = λ κs a z z' s s' p q. put-end _ _ _ _ _ z z' p q;
-  say-put-bytes-out = λ κs a z z' s s' p q. put-laid _ _ _ _ _ _ _ p q;
-  say-put-field = λ κs a z z' s s' p q. put-end _ _ _ _ _ z z' p q;
-  say-put-field-out = λ κs a z z' s s' p q. put-laid _ _ _ _ _ _ _ p q;
-  say-put-numeral = λ κs a z z' s s' p q. put-end _ _ _ _ _ z z' p.0 q.0;
-  say-put-numeral-out = λ κs a z z' s s' p q. put-laid _ _ _ _ _ _ _ p.0 q.0;
-  say-put-answer = λ κs a z z' s s' p q. put-end _ _ _ _ _ z z' p.0 q.0;
-  say-put-answer-out = λ κs a z z' s s' p q. put-laid _ _ _ _ _ _ _ p.0 q.0;
+  printer-byte = λ κs a z z' s s' p q. put-end _ _ _ _ _ _ _ p.put q.put;
+  printer-byte-out = λ κs a z z' s s' p q. put-laid _ _ _ _ _ _ _ p.put q.put;
+  printer-bytes = λ κs a z z' s s' p q. put-end _ _ _ _ _ _ _ p.put q.put;
+  printer-bytes-out = λ κs a z z' s s' p q. put-laid _ _ _ _ _ _ _ p.put q.put;
+  printer-field = λ κs a z z' s s' p q. put-end _ _ _ _ _ _ _ p.put q.put;
+  printer-field-out = λ κs a z z' s s' p q. put-laid _ _ _ _ _ _ _ p.put q.put;
+  printer-numeral = λ κs a z z' s s' p q. put-end _ _ _ _ _ _ _ p.0.put q.0.put;
+  printer-numeral-out = λ κs a z z' s s' p q. put-laid _ _ _ _ _ _ _ p.0.put q.0.put;
+  printer-answer = λ κs a z z' s s' p q. put-end _ _ _ _ _ _ _ p.0.put q.0.put;
+  printer-answer-out = λ κs a z z' s s' p q. put-laid _ _ _ _ _ _ _ p.0.put q.0.put;
+  printer-events = λ κs a z z' s s' p q. put-end _ _ _ _ _ _ _ p.put q.put;
+  printer-events-out = λ κs a z z' s s' p q. put-laid _ _ _ _ _ _ _ p.put q.put;
   say-say-answer = λ κs a z z' s s' p q. put-end _ _ _ _ _ z z' p.0 q.0;
   say-say-answer-out = λ κs a z z' s s' p q. put-laid _ _ _ _ _ _ _ p.0 q.0;
 }
 
 -- ---- the session
-
--- a value of another type than bytes, at two exits
-abbrev pub LeftOnce : {n : ℕ} {A : Type 0} (ps : List (ParamKind n)) (r : ResultKind n) → Out n ps r → ((κs : Lfts n) → (res_t r κs).Denot → AtExit (ended_of n ps r) κs → A) → Type 0
-LeftOnce {n} ps r Q seen =
-    (κs : Lfts n) (a : Dens κs ps) (z z' : (res_t r κs).Denot) (s s' : AtExit (ended_of n ps r) κs) → Q κs a z s → Q κs a z' s' → seen κs z s ≡ seen κs z' s'
 
 pub record SessionOnce : Type 0 where
   pub buffers-fresh : ResultOnce session.Buffers.fresh.Kinds.ps session.Buffers.fresh.Kinds.r session.Buffers.fresh.Reads.Learnt

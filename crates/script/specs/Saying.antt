@@ -7,6 +7,7 @@ use Rattle.weave.specs.declared.Code.{Code}
 use Rattle.weave.specs.declared.Code.TheVariants.{Fine}
 use Rattle.weave.specs.Codes.{is_fine, number}
 use Rattle.script.specs.Words.{bad_word, mount_word}
+use Rattle.script.specs.declared.say.Printer.{Printer}
 
 -- the fields behind a line's first, a tab before each, and byte 10 at its end
 unfoldable pub behind : List (List ℕ) → List ℕ
@@ -42,3 +43,8 @@ pub record Put (s₀ s : List ℕ) (at : ℕ) (bytes : List ℕ) (r : ℕ) : Typ
   pub laid : s ≡ splice s₀ at bytes
   pub ends : r ≡ at + length bytes
   pub whole : r ≤ length s₀
+
+-- p has become q: these bytes were printed behind those before, into the same buffer
+pub record Prints (p q : Printer) (bytes : List ℕ) : Type 0 where
+  pub same : q.out.ghost_name ≡ p.out.ghost_name
+  pub put : Put p.out.now q.out.now p.at bytes q.at

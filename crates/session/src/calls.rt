@@ -14,10 +14,9 @@ use crate::{Buffers, Phase, Session};
 use host::Answer;
 use record::VirtualTime;
 use script::Buffer;
-use script::events::put_events;
 use script::forms::{Window, code_of};
 use script::laying::{begin_args, lay_next, lay_open, lay_write};
-use script::say::say_answer;
+use script::say::{Printer, say_answer};
 use text::lines::field;
 
 impl Session {
@@ -103,9 +102,11 @@ impl Session {
             &buffers.index,
             8,
         );
-        let n = a.value as usize;
-        let end = self.called(b"next", a, out);
-        put_events(le::cut(&buffers.memory, 8, n), out, end)
+        let page = le::cut(&buffers.memory, 8, a.value as usize);
+        let at = self.called(b"next", a, out);
+        let mut p = Printer { out, at };
+        p.events(page);
+        p.at
     }
 
     pub(crate) fn turn_over(

@@ -6,11 +6,11 @@ use native.Mathlib.Omega.{arith}
 use borrow.Author.Rules.{rules}
 use Rattle.session.proofs.Session.next.Goals as goal
 
-pub put_events-requires : goal.put_events-requires
-put_events-requires c =
-    record { at_in_bounds = omega (arith, c.called-end.ensures.upper_bound); page_in_bounds = omega (arith, c.called-end.ensures.upper_bound, page-short _ _ _ (search rules) c.cut.ensures) }
+pub events-requires : goal.events-requires
+events-requires c =
+    record { at_in_bounds = omega (arith, c.called-at.ensures.upper_bound); page_in_bounds = omega (arith, c.called-at.ensures.upper_bound, page-short _ _ _ (search rules) c.cut-page.ensures) }
 
 pub returns : goal.returns
 unfolding next_word
 returns c =
-    next-answers _ _ _ _ c.front-text.ensures _ _ _ _ _ _ _ _ _ _ c.lay_next.ensures c.next-a.ensures.answer c.next-a.ensures.bytes c.called-end.ensures.next_value c.called-end.ensures.put c.cut.ensures c.put_events.ensures
+    next-answers _ _ _ _ c.front-text.ensures _ _ _ _ _ _ _ _ _ _ c.lay_next.ensures c.next-a.ensures.answer c.next-a.ensures.bytes c.called-at.ensures.next_value c.called-at.ensures.put c.cut-page.ensures c.events.ensures.put
