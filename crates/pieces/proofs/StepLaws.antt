@@ -22,7 +22,8 @@ use Rattle.script.proofs.SayLaws.{put-none, put_then, digits-most}
 use Rattle.session.specs.declared.Phase.{Phase}
 use Rattle.session.specs.declared.Phase.TheVariants.{Listing, Overfull, Playing, Over}
 use Rattle.session.specs.declared.Session.{Session}
-use Rattle.session.specs.Sessions.{Buffers, Answers, answered, counted, fresh_session, end_in}
+use Rattle.session.specs.declared.Buffers.{Buffers}
+use Rattle.session.specs.Sessions.{Answers, answered, counted, fresh_session, end_in}
 use Rattle.pieces.specs.declared.Play.{Play}
 use Rattle.pieces.specs.Feeding.{Stand, stand_as, stand_of, Heard, Hears, holding, is_name, end_said, titled, spoken, closed, over, last_line, ended, fed, one_line}
 use Rattle.pieces.proofs.PieceLaws.{fed-line}
@@ -65,14 +66,14 @@ name-short m l t et e = leb-true (length l) 1024 (and_right m _ (and_left (m && 
 pub title-put : (s₀ s₁ s₂ s₃ : List ℕ) (a b r : ℕ) (xs l : List ℕ) → Put s₀ s₁ 0 xs a → Put s₁ s₂ a l b → Put s₂ s₃ b (10 ∷ []) r → Put s₀ s₃ 0 (xs ++ (l ++ (10 ∷ []))) r
 title-put s₀ s₁ s₂ s₃ a b r xs l p q t = put_then s₀ s₁ s₃ 0 a r xs (l ++ (10 ∷ [])) p (put_then s₁ s₂ s₃ a b r l (10 ∷ []) q t)
 
-module _ (p : Play) (line l : List ℕ) (b : Buffers) (o o' : List ℕ) (t : Bool) (n : ℕ) (el : l ≡ take p.held line) (et : t ≡ is_name p.many l) where
-  pub closed-name : (p' : Play) → t ≡ true → p' ≡ record { session = fresh_session; many = p.many; named = true; held = 0 }
-      → Put o o' 0 (end_said p.many p.named p.session ++ (l ++ (10 ∷ []))) n → Hears (closed (stand_of p line b)) (stand_of p' line b) o o' n
+module _ (p : Play) (l o o' : List ℕ) (t : Bool) (n : ℕ) (el : l ≡ take p.held p.line) (et : t ≡ is_name p.many l) where
+  pub closed-name : (p' : Play) → t ≡ true → p' ≡ record p { session = fresh_session; named = true; held = 0 }
+      → Put o o' 0 (end_said p.many p.named p.session ++ (take p.held p.line ++ (10 ∷ []))) n → Hears (closed (stand_of p)) (stand_of p') o o' n
   unfolding closed titled
-  closed-name p' e ep put = rw (← el, ← et, e) (record { stand = ap (λ (q : Play). stand_of q line b) ep; said = put })
+  closed-name p' e ep put = rw (← el, ← et, e) (record { stand = ap stand_of ep; said = rw (← el) at put })
 
-  pub closed-line : (b' : Buffers) (next : Session) → t ≡ false → Answers (answered p.session b l) next b' o o' n
-      → Hears (closed (stand_of p line b)) (stand_as next p.many p.named [] b') o o' n
+  pub closed-line : (b' : Buffers) (next : Session) → t ≡ false → Answers (answered p.session p.buffers l) next b' o o' n
+      → Hears (closed (stand_of p)) (stand_as next p.many p.named [] b') o o' n
   unfolding closed spoken
   closed-line b' next e a = rw (← el, ← et, e) (record { stand = rw (a.next, a.buffers); said = a.said })
 
@@ -113,30 +114,30 @@ whole-test piece at = rw (length-drop at piece) (go (length (before 10 (drop at 
         on (passes e) = e ∙ sym (lt-ltb k (n - at) (omega (arith, ltb-true (at + k) n e)))
         on (fails e) = e ∙ sym (le-ltb k (n - at) (omega (arith, ltb-false (at + k) n e)))
 
-module _ (p q : Play) (line line' piece l : List ℕ) (b : Buffers) (at held : ℕ) (g : Gathered) (o : List ℕ) (long : length line ≡ 65536)
-    (ef : l ≡ take p.held line) (eh : held ≡ length l) (eg : g ≡ gathered piece at held) (el : line' ≡ splice line held (more piece at))
-    (eq : q ≡ record { session = p.session; many = p.many; named = p.named; held = g.held }) where
+module _ (p : Play) (line' piece l : List ℕ) (at held : ℕ) (g : Gathered) (o : List ℕ) (long : length p.line ≡ 65536)
+    (ef : l ≡ take p.held p.line) (eh : held ≡ length l) (eg : g ≡ gathered piece at held) (el : line' ≡ splice p.line held (more piece at)) where
   most : held ≤ 65536
-  most = rw (eh, ef, length-take p.held line, long) (min-le_right p.held 65536)
+  most = rw (eh, ef, length-take p.held p.line, long) (min-le_right p.held 65536)
 
-  room : take held line ++ take (65536 - held) (more piece at) ≡ take p.held line ++ take (65536 - length (take p.held line)) (more piece at)
-  room = rw (eh ∙ ap length ef, as_many p.held line)
+  room : take held p.line ++ take (65536 - held) (more piece at) ≡ take p.held p.line ++ take (65536 - length (take p.held p.line)) (more piece at)
+  room = rw (eh ∙ ap length ef, as_many p.held p.line)
 
-  gathers : stand_of q line' b ≡ holding (stand_of p line b) (before 10 (drop at piece))
+  gathers : stand_of (record p { line = line'; held = g.held }) ≡ holding (stand_of p) (before 10 (drop at piece))
   unfolding holding more gathered
   gathers =
-      rw (eq, ap (λ (x : Gathered). x.held) eg, el)
-      (ap (λ (r : List ℕ). stand_as p.session p.many p.named r b) (kept line (more piece at) held long most ∙ room))
+      rw (ap (λ (x : Gathered). x.held) eg, el)
+      (ap (λ (r : List ℕ). stand_as p.session p.many p.named r p.buffers) (kept p.line (more piece at) held long most ∙ room))
 
   whole_is : g.whole ≡ ltb (length (before 10 (drop at piece))) (length (drop at piece))
   unfolding gathered
   whole_is = ap (λ (x : Gathered). x.whole) eg ∙ whole-test piece at
 
-  pub step-whole : (s' : Stand) (o' : List ℕ) (n : ℕ) → g.whole ≡ true → Hears (closed (stand_of q line' b)) s' o o' n → Hears (one_line (stand_of p line b) (drop at piece)) s' o o' n
+  pub step-whole : (s' : Stand) (o' : List ℕ) (n : ℕ) → g.whole ≡ true → Hears (closed (stand_of (record p { line = line'; held = g.held }))) s' o o' n
+      → Hears (one_line (stand_of p) (drop at piece)) s' o o' n
   unfolding one_line
   step-whole s' o' n e h = rw (sym whole_is ∙ e, sym gathers) h
 
-  pub step_part : g.whole ≡ false → Hears (one_line (stand_of p line b) (drop at piece)) (stand_of q line' b) o o 0
+  pub step_part : g.whole ≡ false → Hears (one_line (stand_of p) (drop at piece)) (stand_of (record p { line = line'; held = g.held })) o o 0
   unfolding one_line
   step_part e = rw (sym whole_is ∙ e) (record { stand = gathers; said = put-none o 0 (omega arith) })
 
@@ -164,12 +165,12 @@ feed-done piece at s all h i = rw (drop_of_length-le piece h) at i
 
 -- ---- the end of the input
 
-module _ (p : Play) (line l : List ℕ) (b : Buffers) (el : l ≡ take p.held line) where
-  pub last-held : (s' : Stand) (o o' : List ℕ) (n : ℕ) → 1 ≤ length l → Hears (closed (stand_of p line b)) s' o o' n → s' ≡ (last_line (stand_of p line b)).stand
+module _ (p : Play) (l : List ℕ) (el : l ≡ take p.held p.line) where
+  pub last-held : (s' : Stand) (o o' : List ℕ) (n : ℕ) → 1 ≤ length l → Hears (closed (stand_of p)) s' o o' n → s' ≡ (last_line (stand_of p)).stand
   unfolding last_line
-  last-held s' o o' n h g = rw (lt-ltb 0 (length (take p.held line)) (rw el at h)) g.stand
+  last-held s' o o' n h g = rw (lt-ltb 0 (length (take p.held p.line)) (rw el at h)) g.stand
 
-  pub last_none : length l < 1 → stand_of p line b ≡ (last_line (stand_of p line b)).stand
+  pub last_none : length l < 1 → stand_of p ≡ (last_line (stand_of p)).stand
   unfolding last_line
   last_none h = rw (← el, le-ltb 0 (length l) (omega arith))
 

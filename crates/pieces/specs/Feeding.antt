@@ -1,11 +1,12 @@
 -- Input that comes in pieces, and its lines answered one by one, whatever the pieces are.
 -- Assumes nothing.
-use Rattle.std.specs.Prelude.{◌≡◌, Bool, true, not, ◌&&◌, ◌||◌, cond, List, [], ◌∷◌, ◌++◌, ℕ, ◌-◌, leb, ltb, eqb, length, take}
+use Rattle.std.specs.Prelude.{◌≡◌, Bool, true, false, not, ◌&&◌, ◌||◌, cond, List, [], ◌∷◌, ◌++◌, ℕ, ◌-◌, leb, ltb, eqb, length, take}
 use Rattle.text.specs.Compare.{prefix_of}
 use Rattle.text.specs.Lines.{before}
 use Rattle.script.specs.Saying.{Put}
+use Rattle.session.specs.declared.Buffers.{Buffers}
 use Rattle.session.specs.declared.Session.{Session}
-use Rattle.session.specs.Sessions.{Buffers, Answered, answered, fresh_session, end_in, is_over}
+use Rattle.session.specs.Sessions.{Answered, answered, fresh_session, no_bytes, end_in, is_over}
 use Rattle.pieces.specs.declared.Play.{Play}
 
 -- what a reading has come to: the session, whether sessions follow one another under names and whether one has been named, the bytes of the line that is
@@ -20,9 +21,13 @@ pub record Stand : Type 0 where
 abbrev pub stand_as : Session → Bool → Bool → List ℕ → Buffers → Stand
 stand_as s m n h b = record { session = s; many = m; named = n; held = h; buffers = b }
 
--- a play, with the line that is under way at the front of a buffer
-abbrev pub stand_of : Play → List ℕ → Buffers → Stand
-stand_of p line b = stand_as p.session p.many p.named (take p.held line) b
+-- a play, with the line that is under way at the front of its buffer
+abbrev pub stand_of : Play → Stand
+stand_of p = stand_as p.session p.many p.named (take p.held p.line) p.buffers
+
+-- before the first byte
+unfoldable pub fresh_stand : Bool → Stand
+fresh_stand m = stand_as fresh_session m false [] no_bytes
 
 -- what some bytes of input do: what the reading comes to, and the bytes printed
 pub record Heard : Type 0 where

@@ -5,35 +5,23 @@ pub mod closing;
 pub mod feeding;
 pub mod standing;
 
-use session::Session;
+use script::Buffer;
+use session::{Buffers, Session};
 
-// A session, beside a buffer that holds the line under way.
-#[derive(Clone, Copy)]
+// A session with its buffers, and the line under way.
+#[derive(Drop)]
 pub struct Play {
     pub session: Session,
+    pub buffers: Buffers,
     pub many: bool, // sessions follow one another, each under its name
     pub named: bool, // and one has been named
-    pub held: usize, // bytes of the line under way
+    pub line: Buffer,
+    pub held: usize, // bytes of the line under way, at the front of its buffer
 }
 
-// How many bytes were printed, and the next play.
-#[derive(Drop)]
-pub struct Told {
-    pub wrote: usize,
-    pub play: Play,
-}
-
-// The same, and where the next line begins.
+// How many bytes were printed for a line, and where the next one begins.
 #[derive(Drop)]
 pub struct Step {
     pub wrote: usize,
     pub at: usize,
-    pub play: Play,
-}
-
-// The next play, and whether there is no more to read.
-#[derive(Drop)]
-pub struct Turn {
-    pub play: Play,
-    pub last: bool,
 }

@@ -1,15 +1,20 @@
 -- Two results are equal, for the public functions of the rehearsal too (Determined.antt has the others and says what is meant).
 -- Assumes nothing.
-use mathlib.Core.Path.{◌≡◌, sym, ap, ◌∙◌}
+use mathlib.Core.Path.{◌≡◌, sym, ◌∙◌}
 use mathlib.Core.List.{List}
 use Prim.Native.Nat.{ℕ}
+use borrow.Fn.Kinds.{ParamKind, ResultKind, Dens, res_t, ended_of, Out}
+use denote.Triple.Clauses.{AtExit}
+use contract.Lifetimes.{Lfts}
 use Rattle.script.proofs as script
 use Rattle.script.specs.Saying.{Put}
 use Rattle.session.proofs as session
-use Rattle.session.specs.declared.Said.{Said}
-use Rattle.session.specs.declared.Session.{Session}
-use Rattle.session.specs.Sessions.{Answered, Buffers, Answers}
 use Rattle.promises.proofs.Determined.{ResultOnce, SeenOnce, meet, meet-0, meet-1}
+
+-- a value of another type than bytes, at two exits
+abbrev pub LeftOnce : {n : ℕ} {A : Type 0} (ps : List (ParamKind n)) (r : ResultKind n) → Out n ps r → ((κs : Lfts n) → (res_t r κs).Denot → AtExit (ended_of n ps r) κs → A) → Type 0
+LeftOnce {n} ps r Q seen =
+    (κs : Lfts n) (a : Dens κs ps) (z z' : (res_t r κs).Denot) (s s' : AtExit (ended_of n ps r) κs) → Q κs a z s → Q κs a z' s' → seen κs z s ≡ seen κs z' s'
 
 -- ---- contracts that say what was put
 
@@ -22,8 +27,6 @@ put-laid o o₁ o₂ at bytes n k p q = p.laid ∙ sym q.laid
 -- ---- the script
 
 pub record ScriptOnce : Type 0 where
-  pub events-put-events : ResultOnce script.events.put_events.Kinds.ps script.events.put_events.Kinds.r script.events.put_events.Reads.Learnt
-  pub events-put-events-out : SeenOnce script.events.put_events.Kinds.ps script.events.put_events.Kinds.r script.events.put_events.Reads.Learnt (λ κs z s. s.1.0.now)
   pub forms-code-of : ResultOnce script.forms.code_of.Kinds.ps script.forms.code_of.Kinds.r script.forms.code_of.Reads.Learnt
   pub line_read : ResultOnce script.forms.Line.read.Kinds.ps script.forms.Line.read.Kinds.r script.forms.Line.read.Reads.Learnt
   pub gather-gather : ResultOnce script.gather.gather.Kinds.ps script.gather.gather.Kinds.r script.gather.gather.Reads.Learnt
@@ -32,23 +35,23 @@ pub record ScriptOnce : Type 0 where
   pub laying-lay-write-memory : SeenOnce script.laying.lay_write.Kinds.ps script.laying.lay_write.Kinds.r script.laying.lay_write.Reads.Learnt (λ κs z s. s.0.now)
   pub laying-lay-open-memory : SeenOnce script.laying.lay_open.Kinds.ps script.laying.lay_open.Kinds.r script.laying.lay_open.Reads.Learnt (λ κs z s. s.0.now)
   pub laying-lay-next-memory : SeenOnce script.laying.lay_next.Kinds.ps script.laying.lay_next.Kinds.r script.laying.lay_next.Reads.Learnt (λ κs z s. s.0.now)
-  pub say-put-byte : ResultOnce script.say.put_byte.Kinds.ps script.say.put_byte.Kinds.r script.say.put_byte.Reads.Learnt
-  pub say-put-byte-out : SeenOnce script.say.put_byte.Kinds.ps script.say.put_byte.Kinds.r script.say.put_byte.Reads.Learnt (λ κs z s. s.0.now)
-  pub say-put-bytes : ResultOnce script.say.put_bytes.Kinds.ps script.say.put_bytes.Kinds.r script.say.put_bytes.Reads.Learnt
-  pub say-put-bytes-out : SeenOnce script.say.put_bytes.Kinds.ps script.say.put_bytes.Kinds.r script.say.put_bytes.Reads.Learnt (λ κs z s. s.0.now)
-  pub say-put-field : ResultOnce script.say.put_field.Kinds.ps script.say.put_field.Kinds.r script.say.put_field.Reads.Learnt
-  pub say-put-field-out : SeenOnce script.say.put_field.Kinds.ps script.say.put_field.Kinds.r script.say.put_field.Reads.Learnt (λ κs z s. s.0.now)
-  pub say-put-numeral : ResultOnce script.say.put_numeral.Kinds.ps script.say.put_numeral.Kinds.r script.say.put_numeral.Reads.Learnt
-  pub say-put-numeral-out : SeenOnce script.say.put_numeral.Kinds.ps script.say.put_numeral.Kinds.r script.say.put_numeral.Reads.Learnt (λ κs z s. s.0.now)
-  pub say-put-answer : ResultOnce script.say.put_answer.Kinds.ps script.say.put_answer.Kinds.r script.say.put_answer.Reads.Learnt
-  pub say-put-answer-out : SeenOnce script.say.put_answer.Kinds.ps script.say.put_answer.Kinds.r script.say.put_answer.Reads.Learnt (λ κs z s. s.0.now)
+  pub printer-byte : LeftOnce script.say.Printer.byte.Kinds.ps script.say.Printer.byte.Kinds.r script.say.Printer.byte.Reads.Learnt (λ κs z s. s.0.now.at)
+  pub printer-byte-out : SeenOnce script.say.Printer.byte.Kinds.ps script.say.Printer.byte.Kinds.r script.say.Printer.byte.Reads.Learnt (λ κs z s. s.0.now.out.now)
+  pub printer-bytes : LeftOnce script.say.Printer.bytes.Kinds.ps script.say.Printer.bytes.Kinds.r script.say.Printer.bytes.Reads.Learnt (λ κs z s. s.0.now.at)
+  pub printer-bytes-out : SeenOnce script.say.Printer.bytes.Kinds.ps script.say.Printer.bytes.Kinds.r script.say.Printer.bytes.Reads.Learnt (λ κs z s. s.0.now.out.now)
+  pub printer-field : LeftOnce script.say.Printer.field.Kinds.ps script.say.Printer.field.Kinds.r script.say.Printer.field.Reads.Learnt (λ κs z s. s.0.now.at)
+  pub printer-field-out : SeenOnce script.say.Printer.field.Kinds.ps script.say.Printer.field.Kinds.r script.say.Printer.field.Reads.Learnt (λ κs z s. s.0.now.out.now)
+  pub printer-numeral : LeftOnce script.say.Printer.numeral.Kinds.ps script.say.Printer.numeral.Kinds.r script.say.Printer.numeral.Reads.Learnt (λ κs z s. s.0.now.at)
+  pub printer-numeral-out : SeenOnce script.say.Printer.numeral.Kinds.ps script.say.Printer.numeral.Kinds.r script.say.Printer.numeral.Reads.Learnt (λ κs z s. s.0.now.out.now)
+  pub printer-answer : LeftOnce script.say.Printer.answer.Kinds.ps script.say.Printer.answer.Kinds.r script.say.Printer.answer.Reads.Learnt (λ κs z s. s.0.now.at)
+  pub printer-answer-out : SeenOnce script.say.Printer.answer.Kinds.ps script.say.Printer.answer.Kinds.r script.say.Printer.answer.Reads.Learnt (λ κs z s. s.0.now.out.now)
+  pub printer-events : LeftOnce script.say.Printer.events.Kinds.ps script.say.Printer.events.Kinds.r script.say.Printer.events.Reads.Learnt (λ κs z s. s.0.now.at)
+  pub printer-events-out : SeenOnce script.say.Printer.events.Kinds.ps script.say.Printer.events.Kinds.r script.say.Printer.events.Reads.Learnt (λ κs z s. s.0.now.out.now)
   pub say-say-answer : ResultOnce script.say.say_answer.Kinds.ps script.say.say_answer.Kinds.r script.say.say_answer.Reads.Learnt
   pub say-say-answer-out : SeenOnce script.say.say_answer.Kinds.ps script.say.say_answer.Kinds.r script.say.say_answer.Reads.Learnt (λ κs z s. s.0.now)
 
 pub script-once : ScriptOnce
 script-once = record {
-  events-put-events = λ κs a z z' s s' p q. put-end _ _ _ _ _ z z' p q;
-  events-put-events-out = λ κs a z z' s s' p q. put-laid _ _ _ _ _ _ _ p q;
   forms-code-of = search meet;
   line_read = search meet;
   gather-gather = search meet-0;
@@ -57,58 +60,43 @@ script-once = record {
   laying-lay-write-memory = search meet;
   laying-lay-open-memory = search meet;
   laying-lay-next-memory = search meet;
-  say-put-byte = λ κs a z z' s s' p q. put-end _ _ _ _ _ z z' p q;
-  say-put-byte-out = λ κs a z z' s s' p q. put-laid _ _ _ _ _ _ _ p q;
-  say-put-bytes = λ κs a z z' s s' p q. put-end _ _ _ _ _ z z' p q;
-  say-put-bytes-out = λ κs a z z' s s' p q. put-laid _ _ _ _ _ _ _ p q;
-  say-put-field = λ κs a z z' s s' p q. put-end _ _ _ _ _ z z' p q;
-  say-put-field-out = λ κs a z z' s s' p q. put-laid _ _ _ _ _ _ _ p q;
-  say-put-numeral = λ κs a z z' s s' p q. put-end _ _ _ _ _ z z' p.0 q.0;
-  say-put-numeral-out = λ κs a z z' s s' p q. put-laid _ _ _ _ _ _ _ p.0 q.0;
-  say-put-answer = λ κs a z z' s s' p q. put-end _ _ _ _ _ z z' p.0 q.0;
-  say-put-answer-out = λ κs a z z' s s' p q. put-laid _ _ _ _ _ _ _ p.0 q.0;
+  printer-byte = λ κs a z z' s s' p q. put-end _ _ _ _ _ _ _ p.put q.put;
+  printer-byte-out = λ κs a z z' s s' p q. put-laid _ _ _ _ _ _ _ p.put q.put;
+  printer-bytes = λ κs a z z' s s' p q. put-end _ _ _ _ _ _ _ p.put q.put;
+  printer-bytes-out = λ κs a z z' s s' p q. put-laid _ _ _ _ _ _ _ p.put q.put;
+  printer-field = λ κs a z z' s s' p q. put-end _ _ _ _ _ _ _ p.put q.put;
+  printer-field-out = λ κs a z z' s s' p q. put-laid _ _ _ _ _ _ _ p.put q.put;
+  printer-numeral = λ κs a z z' s s' p q. put-end _ _ _ _ _ _ _ p.0.put q.0.put;
+  printer-numeral-out = λ κs a z z' s s' p q. put-laid _ _ _ _ _ _ _ p.0.put q.0.put;
+  printer-answer = λ κs a z z' s s' p q. put-end _ _ _ _ _ _ _ p.0.put q.0.put;
+  printer-answer-out = λ κs a z z' s s' p q. put-laid _ _ _ _ _ _ _ p.0.put q.0.put;
+  printer-events = λ κs a z z' s s' p q. put-end _ _ _ _ _ _ _ p.put q.put;
+  printer-events-out = λ κs a z z' s s' p q. put-laid _ _ _ _ _ _ _ p.put q.put;
   say-say-answer = λ κs a z z' s s' p q. put-end _ _ _ _ _ z z' p.0 q.0;
   say-say-answer-out = λ κs a z z' s s' p q. put-laid _ _ _ _ _ _ _ p.0 q.0;
 }
 
 -- ---- the session
 
-said_same : (z z' : Said) → z.next ≡ z'.next → z.wrote ≡ z'.wrote → z ≡ z'
-said_same z z' p q = ap (λ (n : ℕ). record { wrote = n; next = z.next }) q ∙ ap (λ (s : Session). record { wrote = z'.wrote; next = s }) p
-
-module _ (a : Answered) (o : List ℕ) (z z' : Said) (b b' : Buffers) (o₁ o₂ : List ℕ) (p : Answers a z.next b o o₁ z.wrote) (q : Answers a z'.next b' o o₂ z'.wrote) where
-  answers-said : z ≡ z'
-  answers-said = said_same z z' (p.next ∙ sym q.next) (put-end o o₁ o₂ 0 a.said z.wrote z'.wrote p.said q.said)
-
-  answers-buffers : b ≡ b'
-  answers-buffers = p.buffers ∙ sym q.buffers
-
-  answers-out : o₁ ≡ o₂
-  answers-out = put-laid o o₁ o₂ 0 a.said z.wrote z'.wrote p.said q.said
-
 pub record SessionOnce : Type 0 where
+  pub buffers-fresh : ResultOnce session.Buffers.fresh.Kinds.ps session.Buffers.fresh.Kinds.r session.Buffers.fresh.Reads.Learnt
   pub fresh : ResultOnce session.Session.fresh.Kinds.ps session.Session.fresh.Kinds.r session.Session.fresh.Reads.Learnt
   pub answer : ResultOnce session.Session.answer.Kinds.ps session.Session.answer.Kinds.r session.Session.answer.Reads.Learnt
-  pub answer-memory : SeenOnce session.Session.answer.Kinds.ps session.Session.answer.Kinds.r session.Session.answer.Reads.Learnt (λ κs z s. s.1.1.0.now)
-  pub answer-staging : SeenOnce session.Session.answer.Kinds.ps session.Session.answer.Kinds.r session.Session.answer.Reads.Learnt (λ κs z s. s.1.1.1.0.now)
-  pub answer-card : SeenOnce session.Session.answer.Kinds.ps session.Session.answer.Kinds.r session.Session.answer.Reads.Learnt (λ κs z s. s.1.1.1.1.0.now)
-  pub answer-text : SeenOnce session.Session.answer.Kinds.ps session.Session.answer.Kinds.r session.Session.answer.Reads.Learnt (λ κs z s. s.1.1.1.1.1.0.now)
-  pub answer-index : SeenOnce session.Session.answer.Kinds.ps session.Session.answer.Kinds.r session.Session.answer.Reads.Learnt (λ κs z s. s.1.1.1.1.1.1.0.now)
-  pub answer-out : SeenOnce session.Session.answer.Kinds.ps session.Session.answer.Kinds.r session.Session.answer.Reads.Learnt (λ κs z s. s.1.1.1.1.1.1.1.0.now)
+  pub answer-session : LeftOnce session.Session.answer.Kinds.ps session.Session.answer.Kinds.r session.Session.answer.Reads.Learnt (λ κs z s. s.0.now)
+  pub answer-buffers : LeftOnce session.Session.answer.Kinds.ps session.Session.answer.Kinds.r session.Session.answer.Reads.Learnt (λ κs z s. s.1.1.0.now)
+  pub answer-out : SeenOnce session.Session.answer.Kinds.ps session.Session.answer.Kinds.r session.Session.answer.Reads.Learnt (λ κs z s. s.1.1.1.0.now)
   pub «end» : ResultOnce session.Session.end.Kinds.ps session.Session.end.Kinds.r session.Session.end.Reads.Learnt
   pub end-out : SeenOnce session.Session.end.Kinds.ps session.Session.end.Kinds.r session.Session.end.Reads.Learnt (λ κs z s. s.1.0.now)
   pub over : ResultOnce session.Session.over.Kinds.ps session.Session.over.Kinds.r session.Session.over.Reads.Learnt
 
 pub session-once : SessionOnce
 session-once = record {
+  buffers-fresh = search meet;
   fresh = search meet;
-  answer = λ κs a z z' s s' p q. answers-said _ _ z z' _ _ _ _ p q;
-  answer-memory = λ κs a z z' s s' p q. ap (λ (b : Buffers). b.memory) (answers-buffers _ _ z z' _ _ _ _ p q);
-  answer-staging = λ κs a z z' s s' p q. ap (λ (b : Buffers). b.staging) (answers-buffers _ _ z z' _ _ _ _ p q);
-  answer-card = λ κs a z z' s s' p q. ap (λ (b : Buffers). b.card) (answers-buffers _ _ z z' _ _ _ _ p q);
-  answer-text = λ κs a z z' s s' p q. ap (λ (b : Buffers). b.text) (answers-buffers _ _ z z' _ _ _ _ p q);
-  answer-index = λ κs a z z' s s' p q. ap (λ (b : Buffers). b.index) (answers-buffers _ _ z z' _ _ _ _ p q);
-  answer-out = λ κs a z z' s s' p q. answers-out _ _ z z' _ _ _ _ p q;
+  answer = λ κs a z z' s s' p q. put-end _ _ _ _ _ z z' p.said q.said;
+  answer-session = λ κs a z z' s s' p q. p.next ∙ sym q.next;
+  answer-buffers = λ κs a z z' s s' p q. p.buffers ∙ sym q.buffers;
+  answer-out = λ κs a z z' s s' p q. put-laid _ _ _ _ _ z z' p.said q.said;
   «end» = λ κs a z z' s s' p q. put-end _ _ _ _ _ z z' p q;
   end-out = λ κs a z z' s s' p q. put-laid _ _ _ _ _ z z' p q;
   over = search meet;

@@ -3,12 +3,17 @@
 use mathlib.Core.Path.{◌≡◌, refl, ap, sym, ◌∙◌, subst}
 use mathlib.Core.Bool.{Bool, true, false}
 use mathlib.Core.List.{List, [], ◌∷◌}
-use Prim.Native.Nat.{ℕ, ◌-◌, ◌≤◌}
-use native.Mathlib.Nat.{not-suc-le-zero}
+use Prim.Native.Nat.{ℕ, ◌+◌, ◌-◌, ◌≤◌}
 use native.Mathlib.Omega.{arith}
-use lib.Dec.{leb}
+use lib.Dec.{leb, eqb}
 use lib.IntN.{ℤ, pos, negsuc, ◌-ℤ◌}
-use lib.ListN.{length}
+use lib.ListN.{length, take, drop}
+use lib.Pointwise.{pointwise}
+use denote.Bor.{Bor}
+use Rattle.std.specs.Prelude.{Option, None, Some}
+use Rattle.std.specs.Option.{MatchOption, unwrap_or}
+use Rattle.std.specs.List.{starts_with}
+use Rattle.std.proofs.lemmas.Bool.Decides.{nat_tests}
 use mir.Syntax.{w64}
 use mir.Val.{SFits, to_z, of_z}
 use mir.Facts.{to_z_pos, to_z-of_z}
@@ -18,10 +23,22 @@ use Rattle.text.specs.Decimal.{number_of}
 use Rattle.value.proofs.Signs.{below-minus-one}
 use Rattle.script.specs.Forms.{is_number, value_of, minus, unsigned, in_range, good_code, signed, code_of}
 
-pub minus-none : (f : List ℕ) → length f ≤ 0 → false ≡ minus f
+pub minus-first : (f : List ℕ) → starts_with eqb f (45 ∷ []) ≡ minus f
 unfolding minus
-minus-none [] h = refl
-minus-none (b ∷ bs) h = absurd (not-suc-le-zero h)
+minus-first [] = refl
+minus-first (b ∷ bs) = grind (arith, nat_tests)
+
+stripped : (f : List ℕ) → pointwise eqb (take 1 f) (45 ∷ []) ≡ minus f
+unfolding minus
+stripped [] = refl
+stripped (b ∷ bs) = grind (arith, nat_tests)
+
+pub unsigned-is : (f u : Bor (List ℕ)) (r : Option (Bor (List ℕ)))
+    → MatchOption r (pointwise eqb (take 1 f.now) (45 ∷ []) ≡ false) (λ x. (pointwise eqb (take 1 f.now) (45 ∷ []) ≡ true) × (x.now ≡ drop 1 f.now) × (length x.now + 1 ≡ length f.now))
+    → u ≡ unwrap_or r f → u.now ≡ unsigned f.now
+unfolding unsigned
+unsigned-is f u None h e = rw (← stripped f.now, h, e)
+unsigned-is f u (Some x) h e = rw (← stripped f.now, h.0, e) h.1
 
 -- ---- ranges
 

@@ -6,6 +6,7 @@ use mathlib.Core.List.{List, [], ◌∷◌, ◌++◌, append_assoc}
 use Prim.Native.Nat.{ℕ, zero, suc, ◌+◌, ◌/◌, ◌≤◌}
 use native.Mathlib.Omega.{arith}
 use lib.Dec.{ltb}
+use lib.IntN.{nat_abs}
 use lib.ListN.{length, set, length-append}
 use borrow.Author.Tests.{le-leb}
 use Rattle.le.specs.Splice.{wholly}
@@ -14,8 +15,9 @@ use Rattle.text.specs.Decimal.{higher, decimal}
 use Rattle.text.proofs.DigitLaws.{length_digits}
 use Rattle.weave.specs.declared.Code.{Code}
 use Rattle.weave.specs.declared.Code.TheVariants.{Fine, Denied, NotNow, Unsound, NoRoom, Bad, Budget, BadValue}
-use Rattle.weave.specs.Codes.{is_fine}
-use Rattle.script.specs.Saying.{Put, behind, printed, number_text, unsigned, answer_text}
+use Rattle.weave.specs.Codes.{is_fine, number}
+use Rattle.script.specs.declared.say.Printer.{Printer}
+use Rattle.script.specs.Saying.{Put, Prints, behind, printed, number_text, answer_text}
 
 pub put-none : (s : List ℕ) (at : ℕ) → at ≤ length s → Put s s at [] at
 put-none s at h = record { laid = sym (splice-nil s at); ends = omega arith; whole = h }
@@ -36,6 +38,19 @@ put_as s₀ s at r xs ys p e = rw e at p
 
 pub put_one : (s : List ℕ) (at b : ℕ) → at + 1 ≤ length s → Put s (set s at b) at (b ∷ []) (at + 1)
 put_one s at b h = record { laid = set-splice s at b; ends = refl; whole = h }
+
+pub prints-then : (p q r : Printer) (xs ys : List ℕ) → Prints p q xs → Prints q r ys → Prints p r (xs ++ ys)
+prints-then p q r xs ys a b =
+    record { same = b.same ∙ a.same; put = put_then p.out.now q.out.now r.out.now p.at q.at r.at xs ys a.put b.put }
+
+pub prints-from : (p p' q : Printer) (xs : List ℕ) → p ≡ p' → Prints p q xs → Prints p' q xs
+prints-from p p' q xs e a = rw e at a
+
+pub prints_as : (p q : Printer) (xs ys : List ℕ) → Prints p q xs → xs ≡ ys → Prints p q ys
+prints_as p q xs ys a e = rw e at a
+
+pub prints-long : (p q : Printer) (xs : List ℕ) → Prints p q xs → length q.out.now ≡ length p.out.now
+prints-long p q xs a = put-long p.out.now q.out.now p.at q.at xs a.put
 
 -- ---- digits
 
@@ -67,7 +82,7 @@ answer-fine : (c : Code) (v : ℕ) → is_fine c ≡ true → answer_text c v �
 unfolding answer_text
 answer-fine c v e = rw e
 
-answer-refused : (c : Code) (v : ℕ) → is_fine c ≡ false → answer_text c v ≡ 45 ∷ decimal (unsigned c)
+answer-refused : (c : Code) (v : ℕ) → is_fine c ≡ false → answer_text c v ≡ 45 ∷ decimal (nat_abs (number c))
 unfolding answer_text number_text
 answer-refused Fine v e = let z : ◌≡◌ {A = ℕ} 0 1 = cc in absurd (omega arith)
 answer-refused Denied v e = refl
@@ -78,13 +93,13 @@ answer-refused Bad v e = refl
 answer-refused Budget v e = refl
 answer-refused BadValue v e = refl
 
-pub number_put : (s₀ s : List ℕ) (at r : ℕ) (c : Code) (v : ℕ) (t : Bool) → t ≡ is_fine c → t ≡ true → Put s₀ s at (9 ∷ decimal v) r → Put s₀ s at (9 ∷ answer_text c v) r
-number_put s₀ s at r c v t e f p = put_as s₀ s at r _ _ p (ap (λ (l : List ℕ). 9 ∷ l) (sym (answer-fine c v (sym e ∙ f))))
+pub number_put : (p q : Printer) (c : Code) (v : ℕ) (t : Bool) → t ≡ is_fine c → t ≡ true → Prints p q (9 ∷ decimal v) → Prints p q (9 ∷ answer_text c v)
+number_put p q c v t e f a = prints_as p q _ _ a (ap (λ (l : List ℕ). 9 ∷ l) (sym (answer-fine c v (sym e ∙ f))))
 
-pub code_put : (s₀ s₁ s₂ : List ℕ) (at a r : ℕ) (c : Code) (v n : ℕ) (t : Bool) → t ≡ is_fine c → t ≡ false → n ≡ unsigned c
-    → Put s₀ s₁ at (9 ∷ 45 ∷ []) a → Put s₁ s₂ a (decimal n) r → Put s₀ s₂ at (9 ∷ answer_text c v) r
-code_put s₀ s₁ s₂ at a r c v n t e f d p q =
-    put_as s₀ s₂ at r _ _ (put_then s₀ s₁ s₂ at a r _ _ p q)
+pub code_put : (p q r : Printer) (c : Code) (v n : ℕ) (t : Bool) → t ≡ is_fine c → t ≡ false → n ≡ nat_abs (number c)
+    → Prints p q (9 ∷ 45 ∷ []) → Prints q r (decimal n) → Prints p r (9 ∷ answer_text c v)
+code_put p q r c v n t e f d a b =
+    prints_as p r _ _ (prints-then p q r _ _ a b)
     (ap (λ (k : ℕ). 9 ∷ 45 ∷ decimal k) d ∙ ap (λ (l : List ℕ). 9 ∷ l) (sym (answer-refused c v (sym e ∙ f))))
 
 -- ---- whole lines

@@ -4,9 +4,10 @@ use Rattle.std.specs.Prelude.{◌≡◌, cond, List, [], ◌∷◌, ◌++◌, �
 use Rattle.le.specs.Splice.{splice}
 use Rattle.text.specs.Decimal.{decimal}
 use Rattle.weave.specs.declared.Code.{Code}
-use Rattle.weave.specs.declared.Code.TheVariants.{Fine, Denied, NotNow, Unsound, NoRoom, Bad, Budget, BadValue}
+use Rattle.weave.specs.declared.Code.TheVariants.{Fine}
 use Rattle.weave.specs.Codes.{is_fine, number}
 use Rattle.script.specs.Words.{bad_word, mount_word}
+use Rattle.script.specs.declared.say.Printer.{Printer}
 
 -- the fields behind a line's first, a tab before each, and byte 10 at its end
 unfoldable pub behind : List (List ℕ) → List ℕ
@@ -21,17 +22,6 @@ printed word fs = word ++ behind fs
 unfoldable pub number_text : ℤ → List ℕ
 number_text (pos n) = decimal n
 number_text (negsuc n) = 45 ∷ decimal (suc n)
-
--- a code's number without its sign (weave/Codes: `number` has the numbers; SayLaws: `answer-refused` ties the two)
-abbrev pub unsigned : Code → ℕ
-unsigned Fine = 0
-unsigned Denied = 1
-unsigned NotNow = 2
-unsigned Unsound = 3
-unsigned NoRoom = 4
-unsigned Bad = 5
-unsigned Budget = 6
-unsigned BadValue = 7
 
 -- what a call is answered with: its number, or the code it was refused with
 unfoldable pub answer_text : Code → ℕ → List ℕ
@@ -53,3 +43,8 @@ pub record Put (s₀ s : List ℕ) (at : ℕ) (bytes : List ℕ) (r : ℕ) : Typ
   pub laid : s ≡ splice s₀ at bytes
   pub ends : r ≡ at + length bytes
   pub whole : r ≤ length s₀
+
+-- p has become q: these bytes were printed behind those before, into the same buffer
+pub record Prints (p q : Printer) (bytes : List ℕ) : Type 0 where
+  pub same : q.out.ghost_name ≡ p.out.ghost_name
+  pub put : Put p.out.now q.out.now p.at bytes q.at

@@ -68,19 +68,13 @@ fn formed(line: &[u8], word: &[u8], n: usize) -> bool
 fn minus(f: &[u8]) -> bool
     ensures { result ≡ minus f.now }
 {
-    if 0 < f.len() {
-        return f[0] == b'-';
-    }
-    false
+    f.starts_with(b"-")
 }
 
 fn unsigned(f: &[u8]) -> &[u8]
     ensures { result.now ≡ unsigned f.now }
 {
-    if minus(f) {
-        return le::tail(f, 1);
-    }
-    f
+    f.strip_prefix(b"-").unwrap_or(f)
 }
 
 fn in_range(minus: bool, n: u64) -> bool

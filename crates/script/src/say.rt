@@ -1,92 +1,87 @@
-// Lines printed into a buffer. Each function says where what it wrote ends.
+// Lines printed into a buffer.
 ghost use Rattle.std.specs.Prelude.{◌≡◌, [], ◌∷◌, ◌+◌, ◌≤◌, length};
 ghost use Rattle.text.specs.Decimal.{decimal};
-ghost use Rattle.script.specs.Saying.{Put, answer_text, unsigned, said_answer};
+ghost use Rattle.script.specs.Saying.{Put, Prints, answer_text, said_answer};
 
 use crate::Buffer;
 use weave::Code;
 
-pub fn put_byte(out: &mut [u8], at: usize, b: u8) -> usize
-    requires { at + 1 ≤ length out.old }
-    ensures { Put out.old out.new at (b ∷ []) result }
-{
-    out[at] = b;
-    at + 1
+// What is printed, and where the next byte goes.
+#[derive(Drop)]
+pub struct Printer<'a> {
+    pub out: &'a mut [u8],
+    pub at: usize,
 }
 
-pub fn put_bytes(out: &mut [u8], at: usize, f: &[u8]) -> usize
-    requires { at + length f.now ≤ length out.old }
-    ensures { Put out.old out.new at f.now result }
-{
-    le::copy_at(f, out, at);
-    at + f.len()
-}
+impl Printer<'_> {
+    pub fn byte(&mut self, b: u8)
+        requires { self.old.at + 1 ≤ length self.old.out.now }
+        ensures { Prints self.old self.new (b ∷ []) }
+    {
+        self.out[self.at] = b;
+        self.at += 1;
+    }
 
-fn put_digits(out: &mut [u8], at: usize, n: u64) -> usize
-    requires { at + 20 ≤ length out.old }
-    ensures put { Put out.old out.new at (decimal n) result }
-    ensures upper_bound { result ≤ at + 20 }
-{
-    let k = text::decimal::digit_count(n);
-    text::decimal::put_number(out, at, n);
-    at + k
-}
+    pub fn bytes(&mut self, f: &[u8])
+        requires { self.old.at + length f.now ≤ length self.old.out.now }
+        ensures { Prints self.old self.new f.now }
+    {
+        le::copy_at(f, self.out, self.at);
+        self.at += f.len();
+    }
 
-// A field, with its tab.
-pub fn put_field(out: &mut [u8], at: usize, f: &[u8]) -> usize
-    requires { at + 1 + length f.now ≤ length out.old }
-    ensures { Put out.old out.new at (9 ∷ f.now) result }
-{
-    let a = put_byte(out, at, b'\t');
-    put_bytes(out, a, f)
-}
+    fn digits(&mut self, n: u64)
+        requires { self.old.at + 20 ≤ length self.old.out.now }
+        ensures put { Prints self.old self.new (decimal n) }
+        ensures upper_bound { self.new.at ≤ self.old.at + 20 }
+    {
+        text::decimal::put_number(self.out, self.at, n);
+        self.at += text::decimal::digit_count(n);
+    }
 
-// A number, with its tab.
-pub fn put_numeral(out: &mut [u8], at: usize, n: u64) -> usize
-    requires { at + 21 ≤ length out.old }
-    ensures put { Put out.old out.new at (9 ∷ decimal n) result }
-    ensures upper_bound { result ≤ at + 21 }
-{
-    let a = put_byte(out, at, b'\t');
-    put_digits(out, a, n)
-}
+    // A field, with its tab.
+    pub fn field(&mut self, f: &[u8])
+        requires { self.old.at + 1 + length f.now ≤ length self.old.out.now }
+        ensures { Prints self.old self.new (9 ∷ f.now) }
+    {
+        self.byte(b'\t');
+        self.bytes(f);
+    }
 
-// A code's number without its sign.
-fn unsigned(c: Code) -> u64
-    ensures { result ≡ unsigned c }
-{
-    match c {
-        Code::Fine => 0,
-        Code::Denied => 1,
-        Code::NotNow => 2,
-        Code::Unsound => 3,
-        Code::NoRoom => 4,
-        Code::Bad => 5,
-        Code::Budget => 6,
-        Code::BadValue => 7,
+    // A number, with its tab.
+    pub fn numeral(&mut self, n: u64)
+        requires { self.old.at + 21 ≤ length self.old.out.now }
+        ensures put { Prints self.old self.new (9 ∷ decimal n) }
+        ensures upper_bound { self.new.at ≤ self.old.at + 21 }
+    {
+        self.byte(b'\t');
+        self.digits(n);
+    }
+
+    // What a call is answered with, and its tab.
+    pub fn answer(&mut self, c: Code, v: u64)
+        requires { self.old.at + 22 ≤ length self.old.out.now }
+        ensures put { Prints self.old self.new (9 ∷ answer_text c v) }
+        ensures upper_bound { self.new.at ≤ self.old.at + 22 }
+    {
+        if c.fine() {
+            self.numeral(v);
+        } else {
+            self.field(b"-");
+            self.digits(c.number().unsigned_abs());
+        }
     }
 }
 
-// What a call is answered with, and its tab.
-pub fn put_answer(out: &mut [u8], at: usize, c: Code, v: u64) -> usize
-    requires { at + 22 ≤ length out.old }
-    ensures put { Put out.old out.new at (9 ∷ answer_text c v) result }
-    ensures upper_bound { result ≤ at + 22 }
-{
-    if c.fine() {
-        return put_numeral(out, at, v);
-    }
-    let a = put_field(out, at, b"-");
-    put_digits(out, a, unsigned(c))
-}
-
-// A word, and what a call is answered with.
+// A word, and what a call is answered with, at the front of a buffer: how many bytes that are.
 pub fn say_answer(out: &mut Buffer, word: &[u8], c: Code, v: u64) -> usize
     requires { length word.now ≤ 9 }
     ensures put { Put out.old out.new 0 (said_answer word.now c v) result }
     ensures upper_bound { result ≤ 32 }
 {
-    let a = put_bytes(out, 0, word);
-    let b = put_answer(out, a, c, v);
-    put_byte(out, b, b'\n')
+    let mut p = Printer { out, at: 0 };
+    p.bytes(word);
+    p.answer(c, v);
+    p.byte(b'\n');
+    p.at
 }

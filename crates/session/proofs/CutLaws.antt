@@ -12,7 +12,8 @@ use borrow.Author.Tests.{leb-true, leb-false, lt-leb}
 use Rattle.le.proofs.TestLaws.{Tested, tested, passes, fails}
 use Rattle.text.proofs.CompareLaws.{same-length-differs}
 use Rattle.script.specs.Words.{go_word}
-use Rattle.session.specs.Sessions.{Buffers, is_go, playing, manifest_line, listing, refused_mount, in_phase, answered}
+use Rattle.session.specs.Sessions.{is_go, playing, manifest_line, listing, refused_mount, in_phase, answered}
+use Rattle.session.specs.declared.Buffers.{Buffers}
 use Rattle.session.specs.declared.Phase.{Phase}
 use Rattle.session.specs.declared.Phase.TheVariants.{Listing, Overfull, Playing, Over}
 use Rattle.session.specs.declared.Session.{Session}

@@ -10,24 +10,13 @@ use lib.ListN.{length, set}
 use Rattle.le.specs.Splice.{splice}
 use Rattle.le.proofs.SpliceLaws.{splice-then, set-splice}
 use Rattle.weave.specs.Codes.{is_fine}
-use Rattle.host.specs.declared.Host.{Host}
 use Rattle.host.specs.declared.Mounted.{Mounted}
 use Rattle.script.specs.Saying.{Put, said_bad, said_mount}
-use Rattle.session.specs.Calls.{After, Does}
-use Rattle.session.specs.Sessions.{Buffers, buffers_of, Answers, counted, became, bad_answer, called, mount_answer, with_index, manifest_line}
+use Rattle.session.specs.Sessions.{Answers, counted, became, bad_answer, mount_answer, with_index, manifest_line}
+use Rattle.session.specs.declared.Buffers.{Buffers}
 use Rattle.session.specs.declared.Phase.TheVariants.{Listing, Overfull, Playing, Over}
 use Rattle.session.specs.declared.Session.{Session}
 use Rattle.script.proofs.SayLaws.{put-none}
-
-pub called-answers : (s next' : Session) (b : Buffers) (a : After) (h : Host) (m st k x x' o o' : List ℕ) (n w : ℕ) → Does a h m st k o o' n → x' ≡ x → w ≡ n
-    → next' ≡ became s Playing s.size h → Answers (called s b a x) next' (buffers_of m st k b.text x') o o' w
-unfolding called
-called-answers s next' b a h m st k x x' o o' n w d ex ew en =
-    record {
-      next = en ∙ ap (became s Playing s.size) d.host;
-      buffers = rw (d.memory, d.staging, d.card, ex);
-      said = rw ew d.said;
-    }
 
 pub bad-answers : (s next' : Session) (b : Buffers) (o o' : List ℕ) (n : ℕ) → next' ≡ became s Over s.size s.host → Put o o' 0 (said_bad (counted s)) n
     → Answers (bad_answer s b) next' b o o' n
@@ -36,32 +25,32 @@ bad-answers s next' b o o' n e p = record { next = e; buffers = refl; said = p }
 
 -- mount, with the table x' that it left
 module _ (s next' : Session) (b : Buffers) (x x' : List ℕ) (ex : x' ≡ x) (m m' : Mounted) (e : m ≡ m') where
-  entered : buffers_of b.memory b.staging b.card b.text x' ≡ with_index b x
+  entered : record b { index = x' } ≡ with_index b x
   unfolding with_index
-  entered = ap (buffers_of b.memory b.staging b.card b.text) ex
+  entered = ap (λ (i : List ℕ). record b { index = i }) ex
 
   pub mount-fine : (o : List ℕ) (t : Bool) → t ≡ is_fine m.code → t ≡ true → next' ≡ became s Playing s.size m.host
-      → Answers (mount_answer s (with_index b x) m') next' (buffers_of b.memory b.staging b.card b.text x') o o 0
+      → Answers (mount_answer s (with_index b x) m') next' (record b { index = x' }) o o 0
   unfolding mount_answer
   mount-fine o t f g en =
       rw (sym (ap (λ (y : Mounted). is_fine y.code) e) ∙ sym f ∙ g)
       (record { next = en ∙ ap (λ (y : Mounted). became s Playing s.size y.host) e; buffers = entered; said = put-none o 0 (omega arith) })
 
   pub mount-refused : (o o' : List ℕ) (n : ℕ) (t : Bool) → t ≡ is_fine m.code → t ≡ false → next' ≡ became s Over s.size s.host → Put o o' 0 (said_mount m.code) n
-      → Answers (mount_answer s (with_index b x) m') next' (buffers_of b.memory b.staging b.card b.text x') o o' n
+      → Answers (mount_answer s (with_index b x) m') next' (record b { index = x' }) o o' n
   unfolding mount_answer
   mount-refused o o' n t f g en p =
       rw (sym (ap (λ (y : Mounted). is_fine y.code) e) ∙ sym f ∙ g) (record { next = en; buffers = entered; said = rw e at p })
 
 pub line_on : (s next' : Session) (b : Buffers) (line text₁ o : List ℕ) (t : Bool) (i : ℕ) → t ≡ leb (s.size + length line) 65535 → t ≡ true
     → text₁ ≡ splice b.text s.size line → i ≡ s.size + length line → next' ≡ became s Listing (i + 1) s.host
-    → Answers (manifest_line s b line) next' (buffers_of b.memory b.staging b.card (set text₁ i 10) b.index) o o 0
+    → Answers (manifest_line s b line) next' (record b { text = set text₁ i 10 }) o o 0
 unfolding manifest_line
 line_on s next' b line text₁ o t i f g e ei en =
     rw (sym f ∙ g)
     (record {
       next = rw ei at en;
-      buffers = ap (λ (t' : List ℕ). buffers_of b.memory b.staging b.card t' b.index) closed;
+      buffers = ap (λ (t' : List ℕ). record b { text = t' }) closed;
       said = put-none o 0 (omega arith);
     })
   where

@@ -1,6 +1,6 @@
 -- A line's call: what is lent to the host for it, what it leaves behind, and what is printed.
 -- Assumes nothing.
-use Rattle.std.specs.Prelude.{◌≡◌, List, ◌++◌, ℕ, ℤ}
+use Rattle.std.specs.Prelude.{List, ◌++◌, ℕ, ℤ}
 use Rattle.le.specs.Splice.{part}
 use Rattle.manifest.specs.Saying.{charge_of}
 use Rattle.host.specs.declared.Host.{Host}
@@ -12,7 +12,7 @@ use Rattle.reads.specs.Paging.{next_answer, next_memory}
 use Rattle.host.specs.Ending.{return_answer, return_card, return_staging}
 use Rattle.script.specs.Words.{begin_word, write_word, open_word, next_word}
 use Rattle.script.specs.Laying.{begin_laid}
-use Rattle.script.specs.Saying.{Put, said_answer}
+use Rattle.script.specs.Saying.{said_answer}
 use Rattle.session.specs.Fates.{said_fate}
 use Rattle.script.specs.Events.{event_lines}
 
@@ -23,14 +23,6 @@ pub record After : Type 0 where
   pub staging : List ℕ
   pub card : List ℕ
   pub said : List ℕ
-
--- h, the buffers m, s and k, and the n bytes that were printed over the buffer o, are just that
-pub record Does (a : After) (h : Host) (m s k o o' : List ℕ) (n : ℕ) : Type 0 where
-  pub host : h ≡ a.host
-  pub memory : m ≡ a.memory
-  pub staging : s ≡ a.staging
-  pub card : k ≡ a.card
-  pub said : Put o o' 0 a.said n
 
 unfoldable pub begin_after : Lent → Host → List ℕ → ℕ → ℕ → After
 begin_after l h m units time =

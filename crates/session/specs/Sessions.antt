@@ -1,7 +1,7 @@
 -- A rehearsal, line by line: "Manifest lines run up to `go`", then one line in and its lines out.
 -- Assumes nothing.
 use Rattle.std.specs.Prelude.{◌≡◌, Bool, true, false, cond, List, [], ◌∷◌, ◌++◌, ℕ, ◌+◌, leb, length, take}
-use Rattle.le.specs.Splice.{splice}
+use Rattle.le.specs.Splice.{splice, zeros}
 use Rattle.text.specs.Compare.{same_bytes}
 use Rattle.text.specs.Lines.{field}
 use Rattle.weave.specs.declared.Code.TheVariants.{Bad as BadManifest}
@@ -19,20 +19,14 @@ use Rattle.script.specs.Saying.{Put, said_bad, said_mount}
 use Rattle.session.specs.Calls.{After, begin_after, write_after, open_after, next_after, return_after}
 use Rattle.script.specs.declared.forms.Line.{Line}
 use Rattle.script.specs.declared.forms.Line.TheVariants.{Begin, Write, Open, Next, Return, Bad}
+use Rattle.session.specs.declared.Buffers.{Buffers}
 use Rattle.session.specs.declared.Phase.{Phase}
 use Rattle.session.specs.declared.Phase.TheVariants.{Listing, Overfull, Playing, Over}
 use Rattle.session.specs.declared.Session.{Session}
 
--- "All buffers are 65,536 bytes"; `text` holds the manifest. The index is as long as a card of that length can need (02, A9)
-pub record Buffers : Type 0 where
-  pub memory : List ℕ
-  pub staging : List ℕ
-  pub card : List ℕ
-  pub text : List ℕ
-  pub index : List ℕ
-
-abbrev pub buffers_of : List ℕ → List ℕ → List ℕ → List ℕ → List ℕ → Buffers
-buffers_of memory' staging' card' text' index' = record { memory = memory'; staging = staging'; card = card'; text = text'; index = index' }
+-- before the first line
+unfoldable pub no_bytes : Buffers
+no_bytes = record { memory = zeros 65536; staging = zeros 65536; card = zeros 65536; text = zeros 65536; index = zeros 481 }
 
 -- the session and the buffers after a line, and the bytes printed for it
 pub record Answered : Type 0 where
@@ -71,7 +65,11 @@ bad_answer s b = record { next = became s Over s.size s.host; buffers = b; said 
 -- a line's call, with what it left behind, in the index too
 unfoldable pub called : Session → Buffers → After → List ℕ → Answered
 called s b a index' =
-    record { next = became s Playing s.size a.host; buffers = buffers_of a.memory a.staging a.card b.text index'; said = a.said }
+    record {
+      next = became s Playing s.size a.host;
+      buffers = record { memory = a.memory; staging = a.staging; card = a.card; text = b.text; index = index' };
+      said = a.said;
+    }
 
 unfoldable pub played : Session → Buffers → List ℕ → Line → Answered
 played s b line (Begin units time) = called s b (begin_after (lent_of s b) s.host b.memory units time.0) b.index
@@ -100,7 +98,7 @@ mount_answer s b m =
 
 -- the buffers after it: an empty card has no entry to set
 unfoldable pub with_index : Buffers → List ℕ → Buffers
-with_index b index' = buffers_of b.memory b.staging b.card b.text index'
+with_index b index' = record b { index = index' }
 
 -- one more line of the manifest, closed by byte 10 (R4): with that, "manifest at most 65,536" bytes. Of one that is longer the lines are only counted
 unfoldable pub manifest_line : Session → Buffers → List ℕ → Answered
@@ -108,7 +106,7 @@ manifest_line s b line =
     cond (leb (s.size + length line) 65535)
     (record {
       next = became s Listing (s.size + length line + 1) s.host;
-      buffers = buffers_of b.memory b.staging b.card (splice b.text s.size (line ++ (10 ∷ []))) b.index;
+      buffers = record b { text = splice b.text s.size (line ++ (10 ∷ [])) };
       said = [];
     })
     (record { next = became s Overfull s.size s.host; buffers = b; said = [] })

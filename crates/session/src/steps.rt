@@ -1,22 +1,36 @@
-// The next session.
+// Before the first line, and the next session.
 ghost use Rattle.std.specs.Prelude.{◌≡◌};
-ghost use Rattle.session.specs.Sessions.{counted, became, fresh_session};
+ghost use Rattle.session.specs.Sessions.{counted, became, fresh_session, no_bytes};
 
-use crate::{Phase, Session};
+use crate::{Buffers, Phase, Session};
 use host::Host;
 use weave::sums::added;
+
+impl Buffers {
+    // Every byte is 0.
+    pub fn fresh() -> Buffers
+        ensures { result ≡ no_bytes }
+    {
+        Buffers {
+            memory: [0; 65536],
+            staging: [0; 65536],
+            card: [0; 65536],
+            text: [0; 65536],
+            index: [0; 481],
+        }
+    }
+}
 
 impl Session {
     // Before the first line.
     pub fn fresh() -> Session
         ensures { result ≡ fresh_session }
     {
-        let host = Host::none();
         Session {
             phase: Phase::Listing,
             lines: 0,
             size: 0,
-            host,
+            host: Host::none(),
         }
     }
 
@@ -27,15 +41,14 @@ impl Session {
         added(self.lines, 1, 0xFFFF_FFFF_FFFF_FFFF)
     }
 
-    pub(crate) fn became(self, phase: Phase, size: usize, host: Host) -> Session
-        ensures { result ≡ became self phase size host }
+    pub(crate) fn becomes(&mut self, phase: Phase, size: usize, host: Host)
+        ensures { self.new ≡ became self.old phase size host }
     {
-        let lines = self.counted();
-        Session {
+        *self = Session {
             phase,
-            lines,
+            lines: self.counted(),
             size,
             host,
-        }
+        };
     }
 }

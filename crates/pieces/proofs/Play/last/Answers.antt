@@ -4,7 +4,7 @@ use Rattle.pieces.proofs.StepLaws.{last_none, last-held}
 use Rattle.pieces.proofs.Play.last.Goals as goal
 
 pub returns-then-front-lt1 : goal.returns-then-front-lt1
-returns-then-front-lt1 c = last_none c.args.self c.args.line.now _ _ c.front.ensures (omega (arith, c.if-front-lt1.true))
+returns-then-front-lt1 c = last_none c.args.self.now _ c.front.ensures (omega (arith, c.if-front-lt1.true))
 
 pub returns : goal.returns
-returns c = last-held c.args.self c.args.line.now _ _ c.front.ensures _ _ _ _ c.if-front-lt1.false c.closed-t.ensures
+returns c = last-held c.args.self.now _ c.front.ensures _ _ _ _ c.if-front-lt1.false c.closed-n.ensures

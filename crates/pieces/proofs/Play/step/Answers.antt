@@ -7,7 +7,7 @@ use Rattle.pieces.proofs.Play.step.Goals as goal
 
 pub returns-then-g-clause-hears : goal.returns-then-g-clause-hears
 returns-then-g-clause-hears c =
-    step-whole c.args.self _ c.args.line.now _ _ _ _ _ _ _ _ (omega (arith, c.told-line)) c.front-held.ensures refl c.gather-g.ensures.value c.gather-g.ensures.line_after c.holding-next.ensures _ _ _ c.if-g.true c.closed-t.ensures
+    step-whole c.args.self.now _ _ _ _ _ _ _ (omega arith) c.front-held.ensures refl c.gather-g.ensures.value c.gather-g.ensures.line_after _ _ _ c.if-g.true c.closed.ensures
 
 pub returns-then-g-clause-at_value : goal.returns-then-g-clause-at_value
 unfolding gathered
@@ -15,7 +15,7 @@ returns-then-g-clause-at_value c = ap (λ (g : Gathered). g.at) c.gather-g.ensur
 
 pub returns-clause-hears : goal.returns-clause-hears
 returns-clause-hears c =
-    step_part c.args.self _ c.args.line.now _ _ _ _ _ _ _ _ (omega (arith, c.told-line)) c.front-held.ensures refl c.gather-g.ensures.value c.gather-g.ensures.line_after c.holding-next.ensures c.if-g.false
+    step_part c.args.self.now _ _ _ _ _ _ _ (omega arith) c.front-held.ensures refl c.gather-g.ensures.value c.gather-g.ensures.line_after c.if-g.false
 
 pub returns-clause-at_value : goal.returns-clause-at_value
 unfolding gathered

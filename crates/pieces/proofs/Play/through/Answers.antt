@@ -2,11 +2,11 @@
 use Rattle.pieces.proofs.PieceLaws.{read_none, read_more}
 use Rattle.pieces.proofs.Play.through.Goals as goal
 
-pub loop-turns-init : goal.loop-turns-init
-loop-turns-init c = read_none _
+pub loop-init : goal.loop-init
+loop-init c = read_none _
 
-pub loop-turns-preserved-then-t : goal.loop-turns-preserved-then-t
-loop-turns-preserved-then-t c = read_more _ _ _ _ c.loop-turns.invariant c.more-t.ensures
+pub loop-preserved : goal.loop-preserved
+loop-preserved c = read_more _ _ _ _ c.loop.invariant c.more.ensures
 
-pub loop-turns-preserved : goal.loop-turns-preserved
-loop-turns-preserved c = read_more _ _ _ _ c.loop-turns.invariant c.more-t.ensures
+pub returns-then-more : goal.returns-then-more
+returns-then-more c = read_more _ _ _ _ c.loop.invariant c.more.ensures

@@ -5,4 +5,4 @@ use Rattle.session.proofs.Session.bad.Goals as goal
 
 pub returns : goal.returns
 unfolding bad_word
-returns c = record { next_value = c.became.ensures; put = rw (sym c.counted.ensures) c.say_answer-wrote.ensures.put }
+returns c = record { next_value = c.becomes.ensures; put = rw (sym c.counted-number.ensures) c.say_answer.ensures.put }

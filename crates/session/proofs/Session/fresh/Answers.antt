@@ -4,4 +4,4 @@ use Rattle.session.proofs.Session.fresh.Goals as goal
 
 pub returns : goal.returns
 unfolding fresh_session
-returns c = simp c.none-host.ensures
+returns c = simp c.none.ensures

@@ -12,4 +12,4 @@ returns-then-same c = simp (← c.same.ensures, c.if-same.true) (record { next =
 
 pub returns : goal.returns
 unfolding refused_mount go_word
-returns c = simp (← c.same.ensures, c.if-same.false) (record { next = c.became.ensures; buffers = refl; said = put-none _ _ (omega arith) })
+returns c = simp (← c.same.ensures, c.if-same.false) (record { next = c.becomes.ensures; buffers = refl; said = put-none _ _ (omega arith) })

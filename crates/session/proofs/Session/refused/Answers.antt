@@ -4,4 +4,4 @@ use Rattle.session.proofs.Session.refused.Goals as goal
 
 pub returns : goal.returns
 unfolding mount_word
-returns c = record { next_value = c.became.ensures; put = c.say_answer-wrote.ensures.put }
+returns c = record { next_value = c.becomes.ensures; put = c.say_answer.ensures.put }

@@ -1,0 +1,15 @@
+-- `script::say::Printer::digits` meets its contract. Assumes nothing.
+use Rattle.script.proofs.SayLaws.{digits-put, digits-most}
+use mathlib.Core.Path.{refl}
+use native.Mathlib.Omega.{arith}
+use Rattle.script.proofs.say.Printer.digits.Goals as goal
+
+pub overflow_add-self : goal.overflow_add-self
+overflow_add-self c = omega (arith, digits-most c.args.n, c.digit_count.ensures)
+
+pub returns : goal.returns
+returns c =
+    record {
+      put = record { same = refl; put = digits-put _ _ _ _ _ (omega arith) c.digit_count.ensures c.put_number.ensures.bytes };
+      upper_bound = omega (arith, digits-most c.args.n, c.digit_count.ensures);
+    }
