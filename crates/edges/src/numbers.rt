@@ -33,22 +33,22 @@ fn written(streams: &mut Streams, n: u64, room: usize) {
 // Two numbers, written into sixteen bytes.
 fn sixteen() -> [u8; 16] {
     let mut b = [255u8; 16];
-    le::put_u32(&mut b, 2, 0x1234_5678);
-    le::put_u64(&mut b, 8, 0xFEDC_BA98_7654_3210);
+    le::put::<u32>(&mut b, 2, 0x1234_5678);
+    le::put::<u64>(&mut b, 8, 0xFEDC_BA98_7654_3210);
     b
 }
 
 // The 32 bits at a place of them, where there are so many.
 fn half_at(streams: &mut Streams, at: usize) {
     if at <= 12 {
-        result(streams, u64::from(le::read_u32(&sixteen(), at)));
+        result(streams, u64::from(le::get::<u32>(&sixteen(), at)));
     }
 }
 
 // The 64 bits.
 fn word_at(streams: &mut Streams, at: usize) {
     if at <= 8 {
-        result(streams, le::read_u64(&sixteen(), at));
+        result(streams, le::get::<u64>(&sixteen(), at));
     }
 }
 

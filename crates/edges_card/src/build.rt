@@ -30,7 +30,7 @@ impl Card {
             return;
         }
         let mut trace = [0x77u8; 32];
-        le::put_u64(&mut trace, 0, 0x1112_1314_1516_1718);
+        le::put::<u64>(&mut trace, 0, 0x1112_1314_1516_1718);
         record::put::put_record(&mut self.bytes, self.len, head(l), &trace, topic, payload);
         self.len += n;
     }
@@ -58,9 +58,9 @@ fn head(l: &[u8]) -> Header {
 // The string `abc` as it is stored.
 fn stored() -> [u8; 35] {
     let mut memory = [0u8; 48];
-    le::put_u32(&mut memory, 8, 5);
-    le::put_u64(&mut memory, 16, 40);
-    le::put_u64(&mut memory, 24, 3);
+    le::put::<u32>(&mut memory, 8, 5);
+    le::put::<u64>(&mut memory, 16, 40);
+    le::put::<u64>(&mut memory, 24, 3);
     le::copy_at(b"abc", &mut memory, 40);
     let mut out = [0u8; 35];
     value::store::store_value(&memory, 8, &mut out, 0);

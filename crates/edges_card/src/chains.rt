@@ -1,5 +1,5 @@
 // The chain that a part is, and its numbers.
-use card::Chain;
+use card::Broken;
 use record::EventId;
 use saying::{number, word};
 use streams::Streams;
@@ -10,11 +10,11 @@ pub(crate) fn chain(streams: &mut Streams, s: &[u8], first: u64, next: u64) {
         return;
     }
     match card::walk::check_chain(s, EventId(first)) {
-        Chain::Whole { next } => {
+        Ok(next) => {
             word(streams, b": whole, next");
             number(streams, next.0);
         }
-        Chain::Broken { at } => {
+        Err(Broken { at }) => {
             word(streams, b": broken at");
             number(streams, at as u64);
         }

@@ -1,7 +1,6 @@
 // Look-up by number, of a whole card and of a damaged one: by the table of the card as it was before.
 use crate::chains;
 use crate::tables::table_of;
-use card::Found;
 use cases::size;
 use record::EventId;
 use saying::{number, word};
@@ -16,8 +15,8 @@ fn by_table<'a>(s: &'a [u8], table: &[u32], id: u64) -> &'a [u8] {
 // The staged record with a number.
 fn by_walk<'a>(s: &'a [u8], first: u64, id: u64) -> &'a [u8] {
     match card::walk::find(s, EventId(first), EventId(id)) {
-        Found::At(at) => le::cut(s, at, le::read_u32(s, at) as usize),
-        Found::Nothing => le::front(s, 0),
+        Some(at) => le::cut(s, at, le::get::<u32>(s, at) as usize),
+        None => le::front(s, 0),
     }
 }
 
@@ -43,7 +42,7 @@ fn found(streams: &mut Streams, r: &[u8]) {
     word(streams, b":");
     number(streams, r.len() as u64);
     word(streams, b" bytes, number");
-    number(streams, le::read_u64(r, 8));
+    number(streams, le::get::<u64>(r, 8));
 }
 
 fn damaged(streams: &mut Streams, s: &[u8], table: &[u32]) {

@@ -13,10 +13,10 @@ fn pointer(streams: &mut Streams, r: &[u8]) {
     if r.len() < 128 {
         return;
     }
-    let at = Header::payload_at(le::read_u32(r, Header::TOPIC_LEN));
-    if le::read_u32(r, Header::FLAGS) == 2 && at + 16 <= r.len() {
+    let at = Header::payload_at(le::get::<u32>(r, Header::TOPIC_LEN));
+    if le::get::<u32>(r, Header::FLAGS) == 2 && at + 16 <= r.len() {
         word(streams, b" ptr");
-        number(streams, le::read_u64(r, at + 8));
+        number(streams, le::get::<u64>(r, at + 8));
     }
 }
 
@@ -24,9 +24,9 @@ fn pointer(streams: &mut Streams, r: &[u8]) {
 fn ids(streams: &mut Streams, page: &[u8]) {
     let mut rest = page;
     while 16 <= rest.len() {
-        number(streams, le::read_u64(rest, 8));
+        number(streams, le::get::<u64>(rest, 8));
         pointer(streams, rest);
-        let n = le::read_u32(rest, 0) as usize;
+        let n = le::get::<u32>(rest, 0) as usize;
         if n == 0 {
             return;
         }

@@ -1,5 +1,4 @@
 // The table that goes with a part of the card.
-use card::Chain;
 use card::walk::check_chain;
 use record::EventId;
 
@@ -12,14 +11,11 @@ pub(crate) fn table_of(s: &[u8], first: u64) -> [u32; ENTRIES] {
     if 9223372036854775808 < first {
         return table;
     }
-    let c = check_chain(s, EventId(first));
-    match c {
-        Chain::Whole { next } => {
-            if next.0 - first <= ENTRIES as u64 {
-                card::index::enter(s, EventId(first), &mut table, 0, 0);
-            }
-            table
-        }
-        Chain::Broken { at: _ } => table,
+    let Ok(next) = check_chain(s, EventId(first)) else {
+        return table;
+    };
+    if next.0 - first <= ENTRIES as u64 {
+        card::index::enter(s, EventId(first), &mut table, 0, 0);
     }
+    table
 }

@@ -86,8 +86,8 @@ pub(crate) fn header(id: u64, flags: u32, agent: u64) -> Header {
 // 32 bytes, none of them 0.
 pub(crate) fn trace() -> [u8; 32] {
     let mut t = [0x77u8; 32];
-    le::put_u64(&mut t, 0, 0x1716_1514_1312_1110);
-    le::put_u64(&mut t, 24, 0x2F2E_2D2C_2B2A_2928);
+    le::put::<u64>(&mut t, 0, 0x1716_1514_1312_1110);
+    le::put::<u64>(&mut t, 24, 0x2F2E_2D2C_2B2A_2928);
     t
 }
 
@@ -102,10 +102,10 @@ fn with_bytes(h: Header, topic: &[u8], payload: &[u8]) -> [u8; 208] {
 // A memory with a value at 8, whose last eight bytes are not 0, and `abc` and what is no text behind it.
 fn memory(kind: u32, first: u64, second: u64) -> [u8; 64] {
     let mut m = [0x5Au8; 64];
-    le::put_u32(&mut m, 8, kind);
-    le::put_u32(&mut m, 12, 0x11);
-    le::put_u64(&mut m, 16, first);
-    le::put_u64(&mut m, 24, second);
+    le::put::<u32>(&mut m, 8, kind);
+    le::put::<u32>(&mut m, 12, 0x11);
+    le::put::<u64>(&mut m, 16, first);
+    le::put::<u64>(&mut m, 24, second);
     le::copy_at(b"abc\xC0\x80", &mut m, 40);
     m
 }
@@ -114,11 +114,9 @@ fn memory(kind: u32, first: u64, second: u64) -> [u8; 64] {
 fn with_value(h: Header, topic: &[u8], kind: u32, first: u64, second: u64) -> [u8; 208] {
     let mut b = [0xA5u8; 208];
     let m = memory(kind, first, second);
-    let k = value::check::check_value(&m, 8);
-    let n = k.len;
-    if n == 0 {
+    let Ok(n) = value::check::check_value(&m, 8) else {
         return b;
-    }
+    };
     if 48 < n {
         return b;
     }

@@ -17,7 +17,7 @@ fn placed(r: &[u8], id: EventId, at: usize) -> [u8; 512] {
 pub(crate) fn shown(streams: &mut Streams, sample: Sample, flags: u32, address: u64) {
     let at = address as usize;
     let mut b = sample.bytes();
-    le::put_u32(&mut b, 12, flags);
+    le::put::<u32>(&mut b, 12, flags);
     let m = placed(le::cut(&b, 8, sample.size()), sample.head().id, at);
     word(streams, sample.name());
     word(streams, b", flags");

@@ -3,12 +3,12 @@ use saying::{pattern, word};
 use streams::Streams;
 use value::Fault;
 
-// A fault, by its number.
-pub(crate) fn code(streams: &mut Streams, f: Fault) {
-    let code: &[u8] = match f {
-        Fault::Fine => b" 0",
-        Fault::Outside => b" -5",
-        Fault::Unfit => b" -7",
+// What a check found, by its number.
+pub(crate) fn code(streams: &mut Streams, checked: Result<u64, Fault>) {
+    let code: &[u8] = match checked {
+        Ok(_) => b" 0",
+        Err(Fault::Outside) => b" -5",
+        Err(Fault::Unfit) => b" -7",
     };
     word(streams, code);
 }
@@ -19,11 +19,11 @@ pub(crate) fn good(streams: &mut Streams, yes: bool) {
 
 // The 32 bytes at 8, as type, flags, the union's two numbers, and the last eight bytes.
 pub(crate) fn numbers(streams: &mut Streams, out: &[u8; 2100]) {
-    pattern(streams, u64::from(le::read_u32(out, 8)));
-    pattern(streams, u64::from(le::read_u32(out, 12)));
-    pattern(streams, le::read_u64(out, 16));
-    pattern(streams, le::read_u64(out, 24));
-    pattern(streams, le::read_u64(out, 32));
+    pattern(streams, u64::from(le::get::<u32>(out, 8)));
+    pattern(streams, u64::from(le::get::<u32>(out, 12)));
+    pattern(streams, le::get::<u64>(out, 16));
+    pattern(streams, le::get::<u64>(out, 24));
+    pattern(streams, le::get::<u64>(out, 32));
 }
 
 // The four bytes behind them; a5 is a byte that nobody wrote.

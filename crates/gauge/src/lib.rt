@@ -20,8 +20,8 @@ pub extern "C" fn gauge_fields(s: &[u8]) -> u64
     let mut sum: u64 = 0;
     for i in 0..s.len() / 12 {
         let at = 12 * i;
-        let short = u64::from(le::read_u32(s, at));
-        let long = le::read_u64(s, at + 4);
+        let short = u64::from(le::get::<u32>(s, at));
+        let long = le::get::<u64>(s, at + 4);
         sum = sum.wrapping_add(short).wrapping_add(long);
     }
     sum

@@ -42,12 +42,12 @@ pub(crate) fn word_at(s: &[u8], at: usize) -> u64 {
     if s.len() < 8 || s.len() - 8 < at {
         return 0;
     }
-    le::read_u64(s, at)
+    le::get::<u64>(s, at)
 }
 
 pub(crate) fn put_word(s: &mut [u8], at: usize, n: u64) {
     if 8 <= s.len() && at <= s.len() - 8 {
-        le::put_u64(s, at, n);
+        le::put::<u64>(s, at, n);
     }
 }
 

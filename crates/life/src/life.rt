@@ -47,8 +47,8 @@ impl Ask {
 // begin most time [length]: what begin does not use is 0xEE.
 fn begin_args(l: &[u8]) -> [u8; 136] {
     let mut args = [0xEEu8; 136];
-    le::put_u64(&mut args, 24, number(l, 1));
-    le::put_u64(&mut args, 48, number(l, 2));
+    le::put::<u64>(&mut args, 24, number(l, 1));
+    le::put::<u64>(&mut args, 48, number(l, 2));
     args
 }
 

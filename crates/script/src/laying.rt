@@ -12,17 +12,17 @@ fn put_three(m: &mut [u8], at: usize, a: u64, b: u64, c: u64)
     requires { at + 24 ≤ length m.old }
     ensures { m.new ≡ splice m.old at (words (a ∷ b ∷ c ∷ [])) }
 {
-    le::put_u64(m, at, a);
-    le::put_u64(m, at + 8, b);
-    le::put_u64(m, at + 16, c);
+    le::put::<u64>(m, at, a);
+    le::put::<u64>(m, at + 8, b);
+    le::put::<u64>(m, at + 16, c);
 }
 
 pub fn begin_args(units: u64, time: VirtualTime) -> [u8; Weave::ARGS]
     ensures { result ≡ begin_laid units time.0 }
 {
     let mut args = [0u8; Weave::ARGS];
-    le::put_u64(&mut args, Weave::RES_MAX, units);
-    le::put_u64(&mut args, Weave::VIRT_TIME, time.0);
+    le::put::<u64>(&mut args, Weave::RES_MAX, units);
+    le::put::<u64>(&mut args, Weave::VIRT_TIME, time.0);
     args
 }
 

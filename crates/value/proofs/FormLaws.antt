@@ -49,15 +49,6 @@ ready m p e =
       long = ap length q ∙ form-long m (cell_at m p) t.1;
     }
 
--- a payload that is not empty is that of a value with no fault
-pub some-fine : (m : List ℕ) (p : ℕ) → (length (payload m p) ≡ 0 → ⊥) → value_fault m p ≡ Ok tt
-unfolding payload
-some-fine m p h = go (value_fault m p) h
-  where
-    go : (f : Result ⊤ Fault) → (length (cond (is_ok f) (form_of m (cell_at m p)) []) ≡ 0 → ⊥) → f ≡ Ok tt
-    go (Ok x) k = refl
-    go (Err f) k = absurd (k refl)
-
 -- ---- the check
 
 module _ (m : List ℕ) (p : ℕ) where

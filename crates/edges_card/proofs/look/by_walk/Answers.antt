@@ -3,5 +3,5 @@ use Rattle.std.proofs.Common.{rules}
 use Rattle.card.proofs.PlaceLaws.{fetch-room}
 use Rattle.edges_card.proofs.look.by_walk.Goals as goal
 
-pub read_u32-requires : goal.read_u32-requires
-read_u32-requires c = search (rules, fetch-room)
+pub get-requires : goal.get-requires
+get-requires c = search (rules, fetch-room)

@@ -4,11 +4,11 @@ use Rattle.card.proofs.WalkLaws.{whole-size, whole-next}
 use Rattle.edges_card.proofs.tables.table_of.Goals as goal
 
 pub overflow_sub-next : goal.overflow_sub-next
-overflow_sub-next c = omega (arith, whole-next _ _ _ (sym c.check_chain-c.ensures ∙ c.in-Whole.is))
+overflow_sub-next c = omega (arith, whole-next _ _ _ (sym c.check_chain.ensures ∙ c.in-Ok.is))
 
 pub enter-requires-clause-first_value : goal.enter-requires-clause-first_value
-enter-requires-clause-first_value c = whole-size _ _ _ (sym c.check_chain-c.ensures ∙ c.in-Whole.is)
+enter-requires-clause-first_value c = whole-size _ _ _ (sym c.check_chain.ensures ∙ c.in-Ok.is)
 
 pub enter-requires-clause-first_in_bounds : goal.enter-requires-clause-first_in_bounds
 enter-requires-clause-first_in_bounds c =
-    omega (arith, whole-next _ _ _ (sym c.check_chain-c.ensures ∙ c.in-Whole.is), c.if-next-first.true)
+    omega (arith, whole-next _ _ _ (sym c.check_chain.ensures ∙ c.in-Ok.is), c.if-next-first.true)

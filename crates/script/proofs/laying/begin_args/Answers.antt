@@ -4,4 +4,4 @@ use Rattle.script.proofs.laying.begin_args.Goals as goal
 
 pub returns : goal.returns
 unfolding begin_laid
-returns c = simp (c.put_u64-2.ensures, c.put_u64.ensures)
+returns c = simp (c.put-2.ensures, c.put.ensures)

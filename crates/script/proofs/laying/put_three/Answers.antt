@@ -3,4 +3,4 @@ use Rattle.script.proofs.LayLaws.{three-laid}
 use Rattle.script.proofs.laying.put_three.Goals as goal
 
 pub returns : goal.returns
-returns c = three-laid _ _ _ _ _ _ _ _ c.put_u64.ensures c.put_u64-2.ensures c.put_u64-3.ensures
+returns c = three-laid _ _ _ _ _ _ _ _ c.put.ensures c.put-2.ensures c.put-3.ensures
