@@ -1,44 +1,39 @@
 // A program's cases, as lines of its input: a word, then numbers, words and bytes, a tab between each two.
 #![tactic(auto)]
 
-ghost use Rattle.std.specs.Prelude.{◌≡◌, ◌%◌, ◌^◌, ◌<◌, ◌≤◌, length};
+ghost use Rattle.std.specs.Prelude.{◌≡◌, ◌%◌, ◌^◌, ◌<◌, ◌≤◌, length, unwrap_or};
 ghost use Rattle.text.specs.Decimal.{number_of};
 ghost use Rattle.text.specs.Lines.{field};
-ghost use Rattle.cases.specs.Fields.{or_else};
 ghost use Rattle.cases.specs.Run.{Runs};
 
 use std::io;
 use streams::Streams;
-use text::decimal::{Number, read_number};
+use text::decimal::read_number;
 use text::lines::{field, line};
 
 // The number that field k is; another where it is none.
 pub fn number_or(l: &[u8], k: usize, other: u64) -> u64
-    ensures { result ≡ or_else (number_of (field k l.now)) other }
+    ensures { result ≡ unwrap_or (number_of (field k l.now)) other }
 {
-    let n = read_number(field(l, k));
-    match n {
-        Number::Is(v) => v,
-        Number::Not => other,
-    }
+    read_number(field(l, k)).unwrap_or(other)
 }
 
 // The number that field k is; 0 where it is none.
 pub fn number(l: &[u8], k: usize) -> u64
-    ensures { result ≡ or_else (number_of (field k l.now)) 0 }
+    ensures { result ≡ unwrap_or (number_of (field k l.now)) 0 }
 {
     number_or(l, k, 0)
 }
 
 pub fn size(l: &[u8], k: usize) -> usize
-    ensures { result ≡ or_else (number_of (field k l.now)) 0 }
+    ensures { result ≡ unwrap_or (number_of (field k l.now)) 0 }
 {
     number(l, k) as usize
 }
 
 // The same, of 32 bits.
 pub fn half(l: &[u8], k: usize) -> u32
-    ensures { result ≡ or_else (number_of (field k l.now)) 0 % 2 ^ 32 }
+    ensures { result ≡ unwrap_or (number_of (field k l.now)) 0 % 2 ^ 32 }
 {
     (number(l, k) % 4294967296) as u32
 }

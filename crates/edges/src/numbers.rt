@@ -3,17 +3,15 @@ use crate::texts::compared;
 use cases::{half, number, size};
 use saying::{answer, result, word};
 use streams::Streams;
-use text::decimal::Number;
 use text::flags::good_flags;
 use text::lines::field;
 use text::sizes::total_len;
 use text::span::inside;
 
 fn read(streams: &mut Streams, s: &[u8]) {
-    let n = text::decimal::read_number(s);
-    match n {
-        Number::Is(k) => result(streams, k),
-        Number::Not => word(streams, b": none\n"),
+    match text::decimal::read_number(s) {
+        Some(k) => result(streams, k),
+        None => word(streams, b": none\n"),
     }
 }
 

@@ -35,7 +35,7 @@ fn one(streams: &mut Streams, l: &[u8], card: &[u8], c: Cursor) -> Option<Cursor
     let grants = Manifest::read(text);
     let mut room = [0usize; Manifest::PLACES];
     let many = grants.held(cases::number(l, 3), &mut room);
-    let places = le::first(&room, many);
+    let places = le::front(&room, many);
     let q = Query {
         way: Way::Indexed,
         first,

@@ -40,10 +40,10 @@ le_at-next (suc w) s at =
     let ih : le_at (suc w) s (suc at) ≡ le_at w s (suc at) + b * 2 ^ (8 * w) = rw (suc-add at w) at (le_at-next w s (suc at)) in
     rw (p, add-suc at w) (omega (arith, ih, mul_assoc b (2 ^ (8 * w)) 256))
 
--- a turn of the loop that reads: of eight bytes none is shifted out
-pub le_at-turn : (i at : ℕ) (s : List ℕ) (v : ℕ) → Bytes s → i < 8 → v ≡ le_at i s at → v + (get_or s (at + i) 0 * 2 ^ (8 * i)) % 2 ^ 64 ≡ le_at (i + 1) s at
-le_at-turn i at s v h l e =
-    rw (shl_exact {a = get_or s (at + i) 0} 8 (8 * i) 64 (omega (arith, h (at + i))) (omega arith), e, add-one i) (sym (le_at-next i s at))
+-- a turn of the loop that reads the byte b: of eight bytes none is shifted out
+pub le_at-turn : (i at : ℕ) (s : List ℕ) (v b : ℕ) → Bytes s → i < 8 → v ≡ le_at i s at → b ≡ get_or s (at + i) 0 → v + (b * 2 ^ (8 * i)) % 2 ^ 64 ≡ le_at (i + 1) s at
+le_at-turn i at s v b h l e q =
+    rw q (rw (shl_exact {a = get_or s (at + i) 0} 8 (8 * i) 64 (omega (arith, h (at + i))) (omega arith), e, add-one i) (sym (le_at-next i s at)))
 
 -- ---- writing
 

@@ -1,14 +1,15 @@
 -- The laws of `splice` and `part`. None has a condition but where the buffer must be long enough for what is said.
 -- Assumes nothing.
 use mathlib.Core.Path.{◌≡◌, refl, sym, ap, ap₂, ◌∙◌}
-use mathlib.Core.Bool.{Bool, true, false}
+use mathlib.Core.Bool.{true}
 use mathlib.Core.List.{List, [], ◌∷◌, ◌++◌, append_assoc}
 use Prim.Native.Nat.{ℕ, zero, suc, ◌+◌, ◌-◌, ◌≤◌, ◌<◌}
 use native.Mathlib.Nat.{le_refl, le_of_suc-le-suc, not-suc-le-zero, suc-add, zero-add, sub-zero, zero-sub, suc-sub-suc}
 use native.Mathlib.Omega.{arith}
 use lib.ListN.{length, get_or, set, take, drop, length-append, length-take, length-drop}
 use lib.Seq.{take_at, take-append-le, drop-append-le, drop-append-add, take-length, drop-cons, take_all, length-take-le, take-take, drop-drop, drop-nil, take-nil, take-add, drop_at}
-use borrow.Author.Tests.{ne_eqb, eqb-true}
+use borrow.Author.Tests.{eqb-true}
+use borrow.Rule.Slice.PartMut.{put_mid}
 use lib.Dec.{eqb}
 use Rattle.le.specs.Splice.{splice, zeros, part, all_zero}
 use Rattle.le.proofs.TestLaws.{and_left, and_right}
@@ -258,19 +259,7 @@ pub part-before : (a n : ℕ) (s : List ℕ) (at : ℕ) (ys : List ℕ) → a + 
 unfolding part
 part-before a n s at ys h = part-splice-before a n s at ys h
 
--- ---- all_zero, for a loop: `all` is what the whole gives, `p` what is left
-
-pub zero_turn : (p p' : List ℕ) (b : ℕ) (all : Bool) → p ≡ b ∷ p' → b ≡ 0 → all_zero p ≡ all → all_zero p' ≡ all
-unfolding all_zero
-zero_turn p p' b all e z inv = rw (e, z) at inv
-
-pub zero-bad : (p p' : List ℕ) (b : ℕ) (all : Bool) → p ≡ b ∷ p' → (b ≡ 0 → ⊥) → all_zero p ≡ all → false ≡ all
-unfolding all_zero
-zero-bad p p' b all e z inv = rw (e, ne_eqb b 0 z) at inv
-
-pub zero-end : (p : List ℕ) (all : Bool) → p ≡ [] → all_zero p ≡ all → true ≡ all
-unfolding all_zero
-zero-end p all e inv = rw e at inv
+-- ---- all_zero
 
 pub zeros-all_zero : (n : ℕ) → all_zero (zeros n) ≡ true
 unfolding all_zero
@@ -278,6 +267,16 @@ zeros-all_zero zero = refl
 zeros-all_zero (suc n) = zeros-all_zero n
 
 -- ---- a part that was lent as `&mut s[a..e]` and has come back: the borrow checker says `put_mid a (e - a) s ys`, with ys what the part is now
+
+pub mid-splice : (a k : ℕ) (xs ys : List ℕ) → length ys ≡ k → a + k ≤ length xs → put_mid a k xs ys ≡ splice xs a ys
+unfolding splice
+mid-splice zero zero xs [] e h = sym (splice-nil xs 0)
+mid-splice zero zero xs (y ∷ ys) e h = absurd (omega arith)
+mid-splice zero (suc k) xs [] e h = absurd (omega arith)
+mid-splice zero (suc k) [] (y ∷ ys) e h = absurd (omega arith)
+mid-splice zero (suc k) (x ∷ xs) (y ∷ ys) e h = ap (λ (r : List ℕ). y ∷ r) (mid-splice zero k xs ys (omega arith) (omega arith))
+mid-splice (suc a) k [] ys e h = absurd (omega arith)
+mid-splice (suc a) k (x ∷ xs) ys e h = ap (λ (r : List ℕ). x ∷ r) (mid-splice a k xs ys e (omega arith))
 
 -- what `&s[at..]` is
 pub lent-tail : (s : List ℕ) (at : ℕ) → take (length s - at) (drop at s) ≡ drop at s

@@ -8,34 +8,18 @@ ghost use Rattle.le.specs.Splice.{splice, zeros, part, all_zero};
 
 // ---- parts: as many of the bytes as there are, so that no caller has to ask first
 
-// The first n bytes.
-pub fn front(s: &[u8], n: usize) -> &[u8]
+// The first n of them.
+pub fn front<T>(s: &[T], n: usize) -> &[T]
     ensures { result.now ≡ take n s.now }
 {
-    if s.len() < n {
-        return s;
-    }
-    &s[..n]
-}
-
-// The first n numbers of a table.
-pub fn first(s: &[usize], n: usize) -> &[usize]
-    ensures { result.now ≡ take n s.now }
-{
-    if s.len() < n {
-        return s;
-    }
-    &s[..n]
+    &s[..n.min(s.len())]
 }
 
 // The bytes from `at` on.
 pub fn tail(s: &[u8], at: usize) -> &[u8]
     ensures { result.now ≡ drop at s.now }
 {
-    if s.len() < at {
-        return &s[..0];
-    }
-    &s[at..]
+    &s[at.min(s.len())..]
 }
 
 // The n bytes from `at` on. With `front` and `tail` the only places where a part of a slice is taken: their callers' proofs say `take`, `drop` and
@@ -55,11 +39,9 @@ fn read_le(s: &[u8], at: usize, w: usize) -> u64
     ensures { result ≡ le_at w s.now at }
 {
     let mut v: u64 = 0;
-    let mut i = 0;
-    while i < w {
-        let byte = s[at + i] as u64;
+    for i in 0..w {
+        let byte = u64::from(s[at + i]);
         v += byte << (8 * i);
-        i += 1;
     }
     v
 }
@@ -100,11 +82,9 @@ fn put_le(s: &mut [u8], at: usize, w: usize, v: u64)
     ensures { s.new ≡ splice s.old at (le_bytes w v) }
 {
     let mut rest = v;
-    let mut i = 0;
-    while i < w {
+    for i in 0..w {
         s[at + i] = (rest % 256) as u8;
         rest = rest / 256;
-        i += 1;
     }
 }
 
@@ -226,11 +206,7 @@ pub fn copy_at(src: &[u8], dst: &mut [u8], at: usize)
     requires { at + length src.now ≤ length dst.old }
     ensures { dst.new ≡ splice dst.old at src.now }
 {
-    let mut done = 0;
-    while done < src.len() {
-        dst[at + done] = src[done];
-        done += 1;
-    }
+    dst[at..at + src.len()].copy_from_slice(src);
 }
 
 // As much of `src` as `dst` has room for from `at` on, written there: no caller has to ask first.
@@ -259,41 +235,15 @@ pub fn zero_range(dst: &mut [u8], from: usize, to: usize)
     requires to_in_bounds { to ≤ length dst.old }
     ensures { dst.new ≡ splice dst.old from (zeros (to - from)) }
 {
-    let mut i = from;
-    while i < to {
-        dst[i] = 0;
-        i += 1;
-    }
+    dst[from..to].fill(0);
 }
 
-// Whether every byte from `from` up to, not including, `to` is 0, byte by byte.
-fn zero_bytes(s: &[u8], from: usize, to: usize) -> bool
-    requires from_le_to { from ≤ to }
-    requires to_in_bounds { to ≤ length s.now }
-    ensures { result ≡ all_zero (part from (to - from) s.now) }
-{
-    let mut i = from;
-    while i < to {
-        if s[i] != 0 {
-            return false;
-        }
-        i += 1;
-    }
-    true
-}
-
-// The same, eight bytes at a time; the last few, fewer than eight, byte by byte.
+// Whether every byte from `from` up to, not including, `to` is 0: eight bytes at a time, and the last few, fewer than eight, byte by byte.
 pub fn zero_between(s: &[u8], from: usize, to: usize) -> bool
     requires from_le_to { from ≤ to }
     requires to_in_bounds { to ≤ length s.now }
     ensures { result ≡ all_zero (part from (to - from) s.now) }
 {
-    let mut i = from;
-    while 8 <= to - i {
-        if read_u64(s, i) != 0 {
-            return false;
-        }
-        i += 8;
-    }
-    zero_bytes(s, i, to)
+    let (eights, others) = cut(s, from, to - from).as_chunks::<8>();
+    eights.iter().all(|e| *e == [0; 8]) && others.iter().all(|b| *b == 0)
 }

@@ -1,4 +1,4 @@
--- The laws of one line: those that the proof of `one_to` cites, and what a line that is a grant is like.
+-- The laws of one line: those that the proofs of its reading cite, and what a line that is a grant is like.
 -- Assumes nothing.
 use mathlib.Core.Path.{◌≡◌, refl, sym, ap, ◌∙◌}
 use mathlib.Core.Bool.{Bool, true, false, ◌&&◌, ◌||◌, cond, true≢false, and-false}
@@ -6,12 +6,11 @@ use mathlib.Core.List.{List, [], ◌∷◌, ◌++◌, Memᴰ}
 use Prim.Native.Nat.{ℕ, zero, suc, ◌+◌, ◌-◌, ◌*◌, ◌≤◌, ◌<◌}
 use native.Mathlib.Nat.{zero-add}
 use native.Mathlib.Omega.{arith}
-use borrow.Author.Tests.{leb-true, leb-false, eq-eqb, eqb-true, eqb-false, ne_eqb, le-leb, lt-leb, lt-ltb, not-true}
+use borrow.Author.Tests.{leb-true, leb-false, eq-eqb, eqb-true, eqb-false, ne_eqb, lt-ltb, not-true}
 use lib.Dec.{leb, ltb, eqb}
 use lib.ListN.{length, get_or, take, drop, drop_of_length-le}
 use Rattle.le.proofs.TestLaws.{and_left, and_right, and_both, and-no-right}
-use Rattle.text.specs.declared.decimal.Number.{Number}
-use Rattle.text.specs.declared.decimal.Number.TheVariants.{Is, Not}
+use Rattle.std.specs.Prelude.{Option, Some, None}
 use Rattle.text.specs.declared.topic.Rule.TheVariants.{Called}
 use Rattle.text.specs.Topic.{good_text, good_topic}
 use Rattle.text.specs.Compare.{prefix_of, same_bytes}
@@ -23,21 +22,6 @@ use Rattle.text.proofs.LinesLaws.{before-short, line-none, line-take, field-here
 use Rattle.text.proofs.TopicLaws.{never-good}
 use Rattle.manifest.specs.Words.{modules_word, charge_word, grant_word, in_word, out_word}
 use Rattle.manifest.specs.Line.{at_most, one_to, number_in, modules_in, charge_in, grant_form, holder_in}
-
--- ---- a number, by what `read_number` answers
-
-module _ (s : List ℕ) (most : ℕ) (n : Number) (e : n ≡ number_of s) where
-  pub one-is : (k : ℕ) → n ≡ Is k → k ≤ most → k ≡ one_to most s
-  unfolding one_to
-  one-is k q h = rw (← e, q, le-leb k most h)
-
-  pub one-over : (k : ℕ) → n ≡ Is k → most < k → 0 ≡ one_to most s
-  unfolding one_to
-  one-over k q h = rw (← e, q, lt-leb k most h)
-
-  pub one-not : n ≡ Not → 0 ≡ one_to most s
-  unfolding one_to
-  one-not q = rw (← e, q)
 
 -- ---- a word and a number, by the tests that `number_in` makes: b says whether the line's first field, f, is the word, and `rest` stands behind the first tab
 
@@ -51,7 +35,7 @@ tab-no-number : (most : ℕ) (f rest : List ℕ) → one_to most (f ++ (9 ∷ re
 unfolding one_to number_of number_from
 tab-no-number most f rest = rw (tab-no-digit f rest) (go (no_leading_zero (f ++ (9 ∷ rest))))
   where
-    go : (z : Bool) → at_most most (cond z Not Not) ≡ 0
+    go : (z : Bool) → at_most most (cond z None None) ≡ 0
     go true = refl
     go false = refl
 
@@ -170,9 +154,9 @@ one-most most s = go (number_of s)
     pick n true e = leb-true n most e
     pick n false e = omega arith
 
-    go : (n : Number) → at_most most n ≤ most
-    go Not = omega arith
-    go (Is n) = pick n (leb n most) refl
+    go : (n : Option ℕ) → at_most most n ≤ most
+    go None = omega arith
+    go (Some n) = pick n (leb n most) refl
 
 -- nor is it where only a line of the right form has one
 one-where : (b : Bool) (most : ℕ) (s : List ℕ) → cond b (one_to most s) 0 ≤ most
@@ -214,7 +198,7 @@ one-spelt most s k e h = go (no_leading_zero s) (digits s) (leb (value_from 0 s)
     within true z d q = record { no_zero = z; all_digits = d; value = q }
     within false z d q = none q
 
-    go : (z d f : Bool) → no_leading_zero s ≡ z → digits s ≡ d → at_most most (cond z (cond (d && f) (Is (value_from 0 s)) Not) Not) ≡ k → Spelt s k
+    go : (z d f : Bool) → no_leading_zero s ≡ z → digits s ≡ d → at_most most (cond z (cond (d && f) (Some (value_from 0 s)) None) None) ≡ k → Spelt s k
     go true true true ez ed q = within (leb (value_from 0 s) most) ez ed q
     go true true false ez ed q = none q
     go true false f ez ed q = none q

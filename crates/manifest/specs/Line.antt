@@ -1,8 +1,6 @@
 -- 01, "The manifest": what one line says. 0 stands for "none", as no number of a manifest may be 0.
 -- Assumes nothing.
-use Rattle.std.specs.Prelude.{Bool, ◌&&◌, ◌||◌, cond, List, ℕ, leb, eqb, length}
-use Rattle.text.specs.declared.decimal.Number.{Number}
-use Rattle.text.specs.declared.decimal.Number.TheVariants.{Is, Not}
+use Rattle.std.specs.Prelude.{Bool, ◌&&◌, ◌||◌, cond, List, ℕ, leb, eqb, length, Option, Some, None}
 use Rattle.text.specs.Topic.{good_topic}
 use Rattle.text.specs.Compare.{same_bytes}
 use Rattle.text.specs.Lines.{fields, field}
@@ -11,9 +9,9 @@ use Rattle.manifest.specs.Words.{modules_word, charge_word, grant_word, in_word,
 use Rattle.manifest.specs.Rights.{Right}
 
 -- a number that may be at most `most`, 0 for any other and for none
-abbrev pub at_most : ℕ → Number → ℕ
-at_most most Not = 0
-at_most most (Is n) = cond (leb n most) n 0
+abbrev pub at_most : ℕ → Option ℕ → ℕ
+at_most most None = 0
+at_most most (Some n) = cond (leb n most) n 0
 
 -- "Numbers are decimal without leading zeros": the number from 1 to `most` that the bytes write, 0 where they write none
 unfoldable pub one_to : ℕ → List ℕ → ℕ

@@ -6,19 +6,19 @@ ghost use Rattle.manifest.specs.Line.{one_to, number_in, modules_in, charge_in, 
 use crate::charge::Charge;
 use le::tail;
 use text::compare::{same, starts_with};
-use text::decimal::{Number, read_number};
+use text::decimal::read_number;
 use text::limits::Limits;
 use text::lines::{behind, field, line};
 use text::topic::good_topic;
 
 // The number from 1 to `most` that the bytes write, 0 where they write none.
+#[tactic(auto, unfolding(crate::specs::Line::one_to))]
 fn one_to(s: &[u8], most: u64) -> u64
     ensures { result ≡ one_to most s.now }
 {
-    let n = read_number(s);
-    match n {
-        Number::Is(k) => { if k <= most { k } else { 0 } }
-        Number::Not => 0,
+    match read_number(s) {
+        Some(n) if n <= most => n,
+        _ => 0,
     }
 }
 

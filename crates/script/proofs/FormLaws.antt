@@ -18,10 +18,11 @@ use mir.Syntax.{w64}
 use mir.Val.{SFits, to_z, of_z}
 use mir.Facts.{to_z_pos, to_z-of_z}
 use borrow.Author.Tests.{leb-true}
+use Rattle.std.specs.Prelude.{is_some, unwrap_or}
 use Rattle.le.proofs.TestLaws.{and_left, and_right}
 use Rattle.text.specs.Decimal.{number_of}
 use Rattle.value.proofs.Signs.{below-minus-one}
-use Rattle.script.specs.Forms.{is_number, value_of, minus, unsigned, in_range, good_code, signed, code_of}
+use Rattle.script.specs.Forms.{minus, unsigned, in_range, good_code, signed, code_of}
 
 pub minus-first : (f : List ℕ) → starts_with eqb f (45 ∷ []) ≡ minus f
 unfolding minus
@@ -72,11 +73,11 @@ minus-fits t n e h = subst (SFits w64) (sym (minus_is t n e h)) (signed-fits t n
 
 -- ---- a code
 
-pub good-range : (f : List ℕ) → good_code f ≡ true → in_range (minus f) (value_of (number_of (unsigned f))) ≡ true
+pub good-range : (f : List ℕ) → good_code f ≡ true → in_range (minus f) (unwrap_or (number_of (unsigned f)) 0) ≡ true
 unfolding good_code
-good-range f e = and_right (is_number (number_of (unsigned f))) (in_range (minus f) (value_of (number_of (unsigned f)))) e
+good-range f e = and_right (is_some (number_of (unsigned f))) (in_range (minus f) (unwrap_or (number_of (unsigned f)) 0)) e
 
-pub code_is : (f : List ℕ) → good_code f ≡ true → code_of f ≡ signed (minus f) (value_of (number_of (unsigned f)))
+pub code_is : (f : List ℕ) → good_code f ≡ true → code_of f ≡ signed (minus f) (unwrap_or (number_of (unsigned f)) 0)
 unfolding code_of
 code_is f e = rw e
 
@@ -88,7 +89,7 @@ code_fits : (f : List ℕ) → SFits w64 (code_of f)
 code_fits f = go (good_code f) refl
   where
     go : (b : Bool) → good_code f ≡ b → SFits w64 (code_of f)
-    go true e = subst (SFits w64) (sym (code_is f e)) (signed-fits (minus f) (value_of (number_of (unsigned f))) (good-range f e))
+    go true e = subst (SFits w64) (sym (code_is f e)) (signed-fits (minus f) (unwrap_or (number_of (unsigned f)) 0) (good-range f e))
     go false e = subst (SFits w64) (sym (code-none f e)) (record { sfits = omega arith })
 
 -- as it is handed on

@@ -1,30 +1,20 @@
 -- The lines behind `go`. 01: "Fields: begin units, virtual time; open filter, start, end, limit, desc; next handle, capacity; write topic, raw payload."
 -- Assumes nothing.
-use Rattle.std.specs.Prelude.{Bool, true, false, ◌&&◌, cond, List, ℕ, ◌-◌, leb, eqb, ℤ, pos, negsuc, length, get_or, drop}
+use Rattle.std.specs.Prelude.{Bool, true, false, ◌&&◌, cond, List, ℕ, ◌-◌, leb, eqb, ℤ, pos, negsuc, length, get_or, drop, is_some, unwrap_or}
 use Rattle.text.specs.Compare.{same_bytes}
 use Rattle.text.specs.Lines.{fields, field}
 use Rattle.text.specs.Decimal.{number_of}
-use Rattle.text.specs.declared.decimal.Number.{Number}
-use Rattle.text.specs.declared.decimal.Number.TheVariants.{Is, Not}
 use Rattle.script.specs.Words.{begin_word, write_word, open_word, next_word, return_word}
 use Rattle.script.specs.declared.forms.Line.{Line}
 use Rattle.script.specs.declared.forms.Line.TheVariants.{Begin, Write, Open, Next, Return, Bad}
 
-abbrev pub is_number : Number → Bool
-is_number (Is n) = true
-is_number Not = false
-
-abbrev pub value_of : Number → ℕ
-value_of (Is n) = n
-value_of Not = 0
-
 -- field k is a number: "decimal without leading zeros", at most 2^64 - 1 (R2)
 unfoldable pub numeral : ℕ → List ℕ → Bool
-numeral k s = is_number (number_of (field k s))
+numeral k s = is_some (number_of (field k s))
 
 -- that number; 0 where it is none
 unfoldable pub value_at : ℕ → List ℕ → ℕ
-value_at k s = value_of (number_of (field k s))
+value_at k s = unwrap_or (number_of (field k s)) 0
 
 -- a line of n fields, the first of them this word
 unfoldable pub formed : List ℕ → ℕ → List ℕ → Bool
@@ -45,7 +35,7 @@ in_range true n = leb 1 n && leb n 9223372036854775808
 in_range false n = leb n 9223372036854775807
 
 unfoldable pub good_code : List ℕ → Bool
-good_code f = is_number (number_of (unsigned f)) && in_range (minus f) (value_of (number_of (unsigned f)))
+good_code f = is_some (number_of (unsigned f)) && in_range (minus f) (unwrap_or (number_of (unsigned f)) 0)
 
 abbrev pub signed : Bool → ℕ → ℤ
 signed false n = pos n
@@ -53,7 +43,7 @@ signed true n = negsuc (n - 1)
 
 -- the code; 0 where it is none
 unfoldable pub code_of : List ℕ → ℤ
-code_of f = cond (good_code f) (signed (minus f) (value_of (number_of (unsigned f)))) (pos 0)
+code_of f = cond (good_code f) (signed (minus f) (unwrap_or (number_of (unsigned f)) 0)) (pos 0)
 
 -- ---- the forms
 

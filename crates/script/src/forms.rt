@@ -1,10 +1,10 @@
 // The lines behind `go`.
 ghost use Rattle.std.specs.Prelude.{◌≡◌, true};
-ghost use Rattle.script.specs.Forms.{is_number, value_of, numeral, value_at, formed, minus, unsigned, in_range, good_code, signed, code_of, is_begin, is_write, is_open, is_next, is_return, line_of};
+ghost use Rattle.script.specs.Forms.{numeral, value_at, formed, minus, unsigned, in_range, good_code, signed, code_of, is_begin, is_write, is_open, is_next, is_return, line_of};
 
 use record::{EventId, VirtualTime};
 use text::compare::same;
-use text::decimal::{Number, read_number};
+use text::decimal::read_number;
 use text::lines::{field, field_count};
 
 // What a cursor is asked to list, but for its filter.
@@ -27,34 +27,16 @@ pub enum Line {
     Bad,
 }
 
-fn is_number(n: Number) -> bool
-    ensures { result ≡ is_number n }
-{
-    match n {
-        Number::Is(v) => true,
-        Number::Not => false,
-    }
-}
-
-fn value_of(n: Number) -> u64
-    ensures { result ≡ value_of n }
-{
-    match n {
-        Number::Is(v) => v,
-        Number::Not => 0,
-    }
-}
-
 fn numeral(line: &[u8], k: usize) -> bool
     ensures { result ≡ numeral k line.now }
 {
-    is_number(read_number(field(line, k)))
+    read_number(field(line, k)).is_some()
 }
 
 fn value_at(line: &[u8], k: usize) -> u64
     ensures { result ≡ value_at k line.now }
 {
-    value_of(read_number(field(line, k)))
+    read_number(field(line, k)).unwrap_or(0)
 }
 
 fn formed(line: &[u8], word: &[u8], n: usize) -> bool
@@ -90,7 +72,7 @@ fn good_code(f: &[u8]) -> bool
     ensures { result ≡ good_code f.now }
 {
     let n = read_number(unsigned(f));
-    is_number(n) & in_range(minus(f), value_of(n))
+    n.is_some() & in_range(minus(f), n.unwrap_or(0))
 }
 
 // A number in range, with its sign.
@@ -108,7 +90,7 @@ pub fn code_of(f: &[u8]) -> i64
     ensures { result ≡ code_of f.now }
 {
     if good_code(f) {
-        return signed(minus(f), value_of(read_number(unsigned(f))));
+        return signed(minus(f), read_number(unsigned(f)).unwrap_or(0));
     }
     0
 }

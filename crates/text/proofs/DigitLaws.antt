@@ -9,9 +9,9 @@ use native.Mathlib.Omega.{arith}
 use borrow.Author.Tests.{le-leb, lt-leb, lt-ltb, le-ltb, ne_eqb, ltb-true, ltb-false}
 use lib.Dec.{leb, ltb, eqb, lit<}
 use lib.ListN.{length, get_or, set, length-append, get_or-append}
+use Rattle.std.specs.Prelude.{Some}
 use Rattle.le.specs.Splice.{splice, wholly}
 use Rattle.le.proofs.SpliceLaws.{splice-append, splice-comm, set-splice}
-use Rattle.text.specs.declared.decimal.Number.TheVariants.{Is}
 use Rattle.text.specs.Decimal.{digit, digits, value_from, no_leading_zero, number_from, number_of, digits_in, higher, decimal}
 
 pub length_digits : (k n : ℕ) → length (digits_in k n) ≡ k
@@ -161,7 +161,7 @@ decimal-leads (suc m) h =
     ne_eqb (get_or (digits_in (suc k) (suc m)) 0 0) 48 (first-digit k (suc m) (no-higher 19 (suc m) (omega arith)) (high-enough 19 (suc m) h)) in
     rw (head, le-leb 1 (length (digits_in (suc k) (suc m))) (omega (arith, length_digits (suc k) (suc m)))) (or-true (eqb (length (digits_in (suc k) (suc m))) 1))
 
-pub read_back : (n : ℕ) → n ≤ 0xFFFF_FFFF_FFFF_FFFF → number_of (decimal n) ≡ Is n
+pub read_back : (n : ℕ) → n ≤ 0xFFFF_FFFF_FFFF_FFFF → number_of (decimal n) ≡ Some n
 unfolding number_of number_from decimal
 read_back n h =
     let big : n < 10 ^ 20 = omega (arith, small) in

@@ -1,11 +1,12 @@
--- The laws of `no_control` that a loop over the bytes asks for, whose `all` is what the whole input gives; which bytes a good text never has; and the two rules for topics.
+-- The laws of `no_control`: that it is the library's `all`, and a step of it, whose `all` is what the whole input gives; which bytes a good text never has; and the two rules for topics.
 -- Assumes nothing.
-use mathlib.Core.Path.{◌≡◌, refl, sym, ◌∙◌}
-use mathlib.Core.Bool.{Bool, true, false, true≢false}
+use mathlib.Core.Path.{◌≡◌, refl, sym, ap, ◌∙◌}
+use mathlib.Core.Bool.{Bool, true, false, true≢false, ◌&&◌}
 use mathlib.Core.List.{List, [], ◌∷◌, Memᴰ}
 use Prim.Native.Nat.{ℕ, ◌+◌, ◌≤◌, ◌<◌}
 use native.Mathlib.Omega.{arith}
 use borrow.Author.Tests.{ne_eqb}
+use Rattle.std.specs.List.{list_all}
 use lib.Dec.{leb}
 use lib.ListN.{length, get_or, drop, drop_of_length-le}
 use Rattle.le.proofs.SpliceLaws.{drop_head}
@@ -15,14 +16,15 @@ use Rattle.text.specs.declared.topic.Rule.TheVariants.{Called, Kept}
 use Rattle.text.specs.Utf8.{utf8}
 use Rattle.text.specs.Topic.{may_stand, no_control, good_text}
 
+pub all-stand : (rule : Rule) (s : List ℕ) → list_all (may_stand rule) s ≡ no_control rule s
+unfolding no_control
+all-stand rule [] = refl
+all-stand rule (b ∷ s) = ap (λ (r : Bool). may_stand rule b && r) (all-stand rule s)
+
 module _ (rule : Rule) (s : List ℕ) (i : ℕ) (all : Bool) where
   pub control-turn : i < length s → may_stand rule (get_or s i 0) ≡ true → no_control rule (drop i s) ≡ all → no_control rule (drop (i + 1) s) ≡ all
   unfolding no_control
   control-turn h l inv = rw (drop_head s i (i + 1) h (omega arith), l) at inv
-
-  pub control-bad : i < length s → may_stand rule (get_or s i 0) ≡ false → no_control rule (drop i s) ≡ all → false ≡ all
-  unfolding no_control
-  control-bad h l inv = rw (drop_head s i (i + 1) h (omega arith), l) at inv
 
   pub control-end : length s ≤ i → no_control rule (drop i s) ≡ all → true ≡ all
   unfolding no_control

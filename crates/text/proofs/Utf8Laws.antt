@@ -1,52 +1,20 @@
--- The laws of `after`, for the code's own table; of `utf8`, for a loop over the characters; and of `utf8_from`, for a loop over the bytes of one.
+-- The laws of `utf8`, for a loop over the characters, and of `utf8_from`, for the bytes of one.
 -- Assumes nothing.
-use mathlib.Core.Path.{◌≡◌, refl, sym, ap, ap₂, ◌∙◌}
+use mathlib.Core.Path.{◌≡◌, refl, sym, ap, ◌∙◌}
 use mathlib.Core.Bool.{Bool, true, false, ◌&&◌}
 use mathlib.Core.List.{List, [], ◌∷◌}
 use Prim.Native.Nat.{ℕ, zero, suc, ◌+◌, ◌-◌, ◌≤◌, ◌<◌}
 use native.Mathlib.Nat.{not-suc-le-zero, le_of_suc-le-suc}
 use native.Mathlib.Omega.{arith}
-use borrow.Author.Tests.{le-leb, lt-leb, lt-ltb}
-use lib.Dec.{T, eqb, eqb→eq}
+use borrow.Author.Tests.{lt-ltb}
+use Rattle.std.specs.List.{list_all}
+use lib.Dec.{leb}
 use lib.ListN.{length, get_or, take, drop, length-drop, drop_of_length-le}
 use lib.Seq.{drop-drop}
 use Rattle.le.specs.Splice.{part}
-use Rattle.le.proofs.SpliceLaws.{drop_head, part-head, part_none}
+use Rattle.le.proofs.SpliceLaws.{drop_head, length_part}
 use Rattle.le.proofs.TestLaws.{and_assoc, and-no-right}
-use Rattle.text.specs.Utf8.{Range, to, within, after, utf8_from, utf8, tails, due, due_of}
-use Rattle.text.specs.declared.utf8.Due.{Due}
-use Rattle.text.proofs.Table.{below, each, left, right}
-
--- ---- the table
-
-abbrev pub same_range : Range → Range → Bool
-same_range (to a b) (to c d) = eqb a c && eqb b d
-
-same-range : (p q : Range) → T (same_range p q) → p ≡ q
-same-range (to a b) (to c d) t = ap₂ to (eqb→eq a c (left (eqb a c) (eqb b d) t)) (eqb→eq b d (right (eqb a c) (eqb b d) t))
-
-abbrev pub same_ranges : List Range → List Range → Bool
-same_ranges [] [] = true
-same_ranges [] (q ∷ qs) = false
-same_ranges (p ∷ ps) [] = false
-same_ranges (p ∷ ps) (q ∷ qs) = same_range p q && same_ranges ps qs
-
-same-ranges : (ps qs : List Range) → T (same_ranges ps qs) → ps ≡ qs
-same-ranges [] [] t = refl
-same-ranges [] (q ∷ qs) t = absurd t
-same-ranges (p ∷ ps) [] t = absurd t
-same-ranges (p ∷ ps) (q ∷ qs) t =
-    ap₂ (λ (r : Range) (rs : List Range). r ∷ rs) (same-range p q (left (same_range p q) (same_ranges ps qs) t)) (same-ranges ps qs (right (same_range p q) (same_ranges ps qs) t))
-
--- a row of the code: its n bytes from `from` on each ask for the ranges rs, which antt computes byte by byte
-abbrev pub in_row : ℕ → List Range → ℕ → Bool
-in_row from rs k = same_ranges rs (after (from + k))
-
-pub row-asks : (from n left lo hi : ℕ) → T (below (in_row from (due left lo hi)) n) → (r : Due) → r ≡ due_of left lo hi → (b : ℕ) → from ≤ b → b < from + n
-    → due r.left r.lo r.hi ≡ after b
-row-asks from n left lo hi t r e b l h =
-    let k : from + (b - from) ≡ b = omega arith in
-    rw (e, ← k) (same-ranges (due left lo hi) (after (from + (b - from))) (each (in_row from (due left lo hi)) n t (b - from) (omega arith)))
+use Rattle.text.specs.Utf8.{Range, to, within, after, utf8_from, utf8, tails, due}
 
 -- ---- characters
 
@@ -113,31 +81,38 @@ pub utf8-end : (s : List ℕ) (i : ℕ) (all : Bool) → length s ≤ i → utf8
 unfolding utf8 utf8_from
 utf8-end s i all h inv = rw (drop_of_length-le s h) at inv
 
--- ---- the bytes that are due, for the loop over them: `all` is what they give
+-- ---- the bytes that are due, p: the first, and the tails behind it
 
-due-tails : (n : ℕ) → due n 0x80 0xBF ≡ tails n
-due-tails zero = refl
-due-tails (suc n) = refl
-
-module _ (s : List ℕ) (i end : ℕ) (all : Bool) (h : i < end) (k : end ≤ length s) (lo hi : ℕ) (inv : utf8_from (due (end - i) lo hi) (part i (end - i) s) ≡ all) where
-  -- the byte at i, and what is due behind it
-  asked : within (to lo hi) (get_or s i 0) && utf8_from (tails (end - (i + 1))) (part (i + 1) (end - (i + 1)) s) ≡ all
-  unfolding utf8_from
-  asked =
-      let n : end - i ≡ suc (end - (i + 1)) = omega arith in
-      rw (part-head s i (end - i) (i + 1) (end - (i + 1)) (omega arith) (omega arith) n, n) at inv
-
-  pub due-met : lo ≤ get_or s i 0 → get_or s i 0 ≤ hi → utf8_from (due (end - (i + 1)) 0x80 0xBF) (part (i + 1) (end - (i + 1)) s) ≡ all
-  due-met l u = rw (due-tails (end - (i + 1))) (rw (le-leb lo (get_or s i 0) l, le-leb (get_or s i 0) hi u) at asked)
-
-  pub due_below : get_or s i 0 < lo → false ≡ all
-  due_below l = rw (lt-leb lo (get_or s i 0) l) at asked
-
-  pub due-above : lo ≤ get_or s i 0 → hi < get_or s i 0 → false ≡ all
-  due-above l u = rw (le-leb lo (get_or s i 0) l, lt-leb (get_or s i 0) hi u) at asked
-
-pub due-end : (s : List ℕ) (i end : ℕ) (all : Bool) → end ≤ i → (lo hi : ℕ) → utf8_from (due (end - i) lo hi) (part i (end - i) s) ≡ all → true ≡ all
+tails-met : (n : ℕ) (p : List ℕ) → length p ≡ n → utf8_from (tails n) p ≡ list_all (λ b. leb 0x80 b && leb b 0xBF) p
 unfolding utf8_from
-due-end s i end all h lo hi inv =
-    let n : end - i ≡ 0 = omega arith in
-    rw (part_none s i (end - i) n, n) at inv
+tails-met zero [] h = refl
+tails-met zero (b ∷ p) h = absurd (omega arith)
+tails-met (suc n) [] h = absurd (omega arith)
+tails-met (suc n) (b ∷ p) h = ap (λ (r : Bool). (leb 0x80 b && leb b 0xBF) && r) (tails-met n p (omega arith))
+
+none : (n lo hi : ℕ) (p : List ℕ) → length p ≡ n → length p < 1 → true ≡ utf8_from (due n lo hi) p
+unfolding utf8_from
+none zero lo hi [] h l = refl
+none (suc n) lo hi [] h l = absurd (omega arith)
+none n lo hi (b ∷ p) h l = absurd (omega arith)
+
+some : (n lo hi : ℕ) (p : List ℕ) → length p ≡ n → 1 ≤ length p
+    → utf8_from (due n lo hi) p ≡ within (to lo hi) (get_or p 0 0) && list_all (λ b. leb 0x80 b && leb b 0xBF) (drop 1 p)
+unfolding utf8_from
+some n lo hi [] h l = absurd (omega arith)
+some zero lo hi (b ∷ p) h l = absurd (omega arith)
+some (suc n) lo hi (b ∷ p) h l = ap (λ (r : Bool). within (to lo hi) b && r) (tails-met n p (omega arith))
+
+module _ (s : List ℕ) (at n lo hi : ℕ) (h : at + n ≤ length s) (p : List ℕ) (e : p ≡ part at n s) where
+  so_many : length p ≡ n
+  so_many = rw e (length_part at n s h)
+
+  pub none-due : length p < 1 → true ≡ utf8_from (due n lo hi) (part at n s)
+  none-due l = none n lo hi p so_many l ∙ ap (utf8_from (due n lo hi)) e
+
+  module _ (l : 1 ≤ length p) where
+    pub not-begun : within (to lo hi) (get_or p 0 0) ≡ false → false ≡ utf8_from (due n lo hi) (part at n s)
+    not-begun q = sym (rw q at (some n lo hi p so_many l)) ∙ ap (utf8_from (due n lo hi)) e
+
+    pub due-begun : within (to lo hi) (get_or p 0 0) ≡ true → list_all (λ b. leb 0x80 b && leb b 0xBF) (drop 1 p) ≡ utf8_from (due n lo hi) (part at n s)
+    due-begun q = sym (rw q at (some n lo hi p so_many l)) ∙ ap (utf8_from (due n lo hi)) e

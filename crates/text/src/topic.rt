@@ -26,15 +26,7 @@ fn may_stand(b: u8, rule: Rule) -> bool
 fn no_control(s: &[u8], rule: Rule) -> bool
     ensures { result ≡ no_control rule s.now }
 {
-    let mut i = 0;
-    while i < s.len() {
-        if may_stand(s[i], rule) {
-            i += 1;
-        } else {
-            return false;
-        }
-    }
-    true
+    s.iter().all(|b| may_stand(*b, rule))
 }
 
 // Whether each of the eight bytes of a number is from 32 to 126: it may stand by either rule. Nothing is claimed of a no: such bytes are looked at again.
@@ -81,17 +73,13 @@ fn plain_bytes(s: &[u8], from: usize) -> usize
             return i;
         }
     }
-    while i < s.len() {
-        let b = s[i];
-        if b < 32 {
-            return i;
+    for k in i..s.len() {
+        let b = s[k];
+        if b < 32 || 126 < b {
+            return k;
         }
-        if 126 < b {
-            return i;
-        }
-        i += 1;
     }
-    i
+    s.len()
 }
 
 fn good_text(s: &[u8], rule: Rule, least: usize, most: usize) -> bool

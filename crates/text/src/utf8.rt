@@ -20,38 +20,22 @@ impl Due {
 }
 
 // What a first byte of 128 or more asks for: the rows of the RFC's table. A byte that begins no character asks for one that there is not, from 1 to 0.
+#[tactic(auto, unfolding(crate::specs::Utf8::after))]
 fn first(b: u8) -> Due
     requires { 0x80 ≤ b }
     ensures { due result.left result.lo result.hi ≡ after b }
 {
-    if b < 0xC2 {
-        return Due::of(1, 1, 0);
+    match b {
+        0xC2..=0xDF => Due::of(1, 0x80, 0xBF),
+        0xE0 => Due::of(2, 0xA0, 0xBF),
+        0xE1..=0xEC => Due::of(2, 0x80, 0xBF),
+        0xED => Due::of(2, 0x80, 0x9F),
+        0xEE..=0xEF => Due::of(2, 0x80, 0xBF),
+        0xF0 => Due::of(3, 0x90, 0xBF),
+        0xF1..=0xF3 => Due::of(3, 0x80, 0xBF),
+        0xF4 => Due::of(3, 0x80, 0x8F),
+        _ => Due::of(1, 1, 0),
     }
-    if b < 0xE0 {
-        return Due::of(1, 0x80, 0xBF);
-    }
-    if b < 0xE1 {
-        return Due::of(2, 0xA0, 0xBF);
-    }
-    if b < 0xED {
-        return Due::of(2, 0x80, 0xBF);
-    }
-    if b < 0xEE {
-        return Due::of(2, 0x80, 0x9F);
-    }
-    if b < 0xF0 {
-        return Due::of(2, 0x80, 0xBF);
-    }
-    if b < 0xF1 {
-        return Due::of(3, 0x90, 0xBF);
-    }
-    if b < 0xF4 {
-        return Due::of(3, 0x80, 0xBF);
-    }
-    if b < 0xF5 {
-        return Due::of(3, 0x80, 0x8F);
-    }
-    Due::of(1, 1, 0)
 }
 
 // Whether the bytes that are due stand at `at`.
@@ -59,23 +43,13 @@ fn follows(s: &[u8], at: usize, d: Due) -> bool
     requires { at + d.left ≤ length s.now }
     ensures { result ≡ utf8_from (due d.left d.lo d.hi) (part at d.left s.now) }
 {
-    let end = at + d.left;
-    let mut lo = d.lo;
-    let mut hi = d.hi;
-    let mut i = at;
-    while i < end {
-        let b = s[i];
-        if b < lo {
-            return false;
+    match le::cut(s, at, d.left) {
+        [] => true,
+        [b, others @ ..] => {
+            let begun = (d.lo <= *b) & (*b <= d.hi);
+            begun && others.iter().all(|b| (0x80 <= *b) & (*b <= 0xBF))
         }
-        if hi < b {
-            return false;
-        }
-        lo = 0x80;
-        hi = 0xBF;
-        i += 1;
     }
-    true
 }
 
 // From a place where no character is under way, past bytes below 128 in steps of eight: each of these is a character by itself.

@@ -1,11 +1,7 @@
 -- `le::read_le` meets its contract: what is read so far is the number of the first i bytes. Assumes nothing.
 use mathlib.Core.Path.{◌≡◌}
-use Prim.Native.Nat.{◌≤◌, ◌-◌}
 use Rattle.le.specs.Le.{le_at}
 use Rattle.le.proofs.read_le.Given as goal
 
 abbrev pub invariant-loop-i : goal.invariant-loop-i
-invariant-loop-i l = (l.i ≤ l.w) × (l.v ≡ le_at l.i l.s l.at)
-
-abbrev pub decreases-loop-i : goal.decreases-loop-i
-decreases-loop-i l = l.w - l.i
+invariant-loop-i l = l.v ≡ le_at l.i l.s l.at

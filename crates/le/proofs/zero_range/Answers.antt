@@ -1,22 +1,15 @@
--- The answers for `le::zero_range`.
-use mathlib.Core.Path.{refl}
-use Prim.Native.Nat.{◌-◌, ◌+◌}
+-- `le::zero_range` meets its contract. Assumes nothing.
+use mathlib.Core.Path.{◌≡◌, ap, ◌∙◌}
+use Prim.Native.Nat.{◌-◌}
 use native.Mathlib.Omega.{arith}
-use lib.ListN.{length-set}
-use Rattle.le.proofs.SpliceLaws.{splice-turn, splice-done, zeros-cons, zeros-none}
+use lib.ListN.{length-replicate}
+use Rattle.le.specs.Splice.{splice, zeros, part}
+use Rattle.le.proofs.SpliceLaws.{mid-splice, length_part}
 use Rattle.le.proofs.zero_range.Goals as goal
 
-pub loop-i-init : goal.loop-i-init
-loop-i-init c = (omega arith, refl, refl)
-
-pub loop-i-preserved : goal.loop-i-preserved
-loop-i-preserved c =
-    let a = c.args in
-    let l = c.loop-i in
-    (omega arith, simp length-set l.invariant.1, splice-turn l.dst l.i _ _ _ _ _ (omega arith) (zeros-cons (a.to - l.i) (a.to - (l.i + 1)) (omega arith)) l.invariant.2)
-
-pub shape_of-dst : goal.shape_of-dst
-shape_of-dst c = c.loop-i.invariant.1
-
 pub returns : goal.returns
-returns c = splice-done _ _ _ _ (zeros-none (c.args.to - c.loop-i.i) (omega arith)) c.loop-i.invariant.2
+unfolding part
+returns c =
+    let a = c.args in
+    let filled : c.fill.new.self ≡ zeros (a.to - a.from) = c.fill.ensures.after (λ y e. e) ∙ ap zeros (length_part a.from (a.to - a.from) a.dst.now (omega arith)) in
+    mid-splice _ _ _ _ (rw filled (length-replicate (a.to - a.from) 0)) (omega arith) ∙ ap (splice a.dst.now a.from) filled

@@ -4,4 +4,4 @@ use Rattle.script.proofs.forms.numeral.Goals as goal
 
 pub returns : goal.returns
 unfolding numeral
-returns c = simp (c.is_number.ensures, c.read_number.ensures, c.field.ensures.0)
+returns c = simp (c.is_some.ensures, c.read_number.ensures, c.field.ensures.0)

@@ -4,4 +4,4 @@ use Rattle.script.proofs.forms.value_at.Goals as goal
 
 pub returns : goal.returns
 unfolding value_at
-returns c = simp (c.value_of.ensures, c.read_number.ensures, c.field.ensures.0)
+returns c = simp (c.unwrap_or.ensures, c.read_number.ensures, c.field.ensures.0)

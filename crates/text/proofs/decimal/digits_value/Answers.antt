@@ -1,30 +1,31 @@
 -- The answers for `text::decimal::digits_value`.
-use mathlib.Core.Path.{refl}
+use mathlib.Core.Path.{sym, ◌∙◌}
 use native.Mathlib.Omega.{arith}
-use Rattle.text.proofs.DecimalLaws.{number-low, number-high, number-over, number-turn, number-end}
+use Rattle.text.proofs.DecimalLaws.{number-none, number-over, number-turn, number-end}
 use Rattle.text.proofs.decimal.digits_value.Goals as goal
 
-pub loop-i-init : goal.loop-i-init
-loop-i-init c = (omega arith, (omega arith, refl))
+pub returns-then-not-is_ascii_digit : goal.returns-then-not-is_ascii_digit
+returns-then-not-is_ascii_digit c =
+    number-none _ _ c.loop-b.b-index _ c.loop-b-test.true c.loop-b.invariant.1 (sym c.is_ascii_digit.ensures.value ∙ c.if-not-is_ascii_digit.true)
 
-pub returns-then-b-lt48 : goal.returns-then-b-lt48
-returns-then-b-lt48 c = number-low _ _ c.loop-i.i _ (omega arith) c.loop-i.invariant.1.1 c.if-b-lt48.true
+pub returns-in_err-checked_mul : goal.returns-in_err-checked_mul
+returns-in_err-checked_mul c =
+    rw c.from_residual.ensures
+    (number-over _ _ c.loop-b.b-index _ c.loop-b-test.true c.loop-b.invariant.1 (omega (arith, c.in_err-checked_mul.ensures)))
 
-pub returns-then-b-gt57 : goal.returns-then-b-gt57
-returns-then-b-gt57 c =
-    number-high _ _ c.loop-i.i _ (omega arith) c.loop-i.invariant.1.1 c.if-b-lt48.false c.if-b-gt57.true
+pub returns-in_err-n : goal.returns-in_err-n
+returns-in_err-n c =
+    rw c.from_residual-in_err-n.ensures
+    (number-over _ _ c.loop-b.b-index _ c.loop-b-test.true c.loop-b.invariant.1
+    (omega (arith, c.from.ensures, c.in_ok-checked_mul.ensures, c.in_err-n.ensures)))
 
-pub returns-then-n-gt1844674407370955161 : goal.returns-then-n-gt1844674407370955161
-returns-then-n-gt1844674407370955161 c =
-    number-over _ _ c.loop-i.i _ (omega arith) c.loop-i.invariant.1.1 c.if-b-lt48.false (omega arith)
-
-pub returns-then-n-d : goal.returns-then-n-d
-returns-then-n-d c =
-    number-over _ _ c.loop-i.i _ (omega arith) c.loop-i.invariant.1.1 c.if-b-lt48.false (omega arith)
-
-pub loop-i-preserved : goal.loop-i-preserved
-loop-i-preserved c =
-    (omega arith, (omega arith, number-turn _ _ c.loop-i.i _ (omega arith) c.loop-i.invariant.1.1 c.if-b-lt48.false c.if-b-gt57.false))
+pub loop-b-preserved : goal.loop-b-preserved
+loop-b-preserved c = (
+  omega (arith, c.in_ok-n.ensures),
+  number-turn _ _ c.loop-b.b-index _ c.loop-b-test.true c.loop-b.invariant.1 _
+      (omega (arith, c.from.ensures, c.in_ok-checked_mul.ensures, c.in_ok-n.ensures))
+      (sym c.is_ascii_digit.ensures.value ∙ c.if-not-is_ascii_digit.false),
+)
 
 pub returns : goal.returns
-returns c = number-end _ _ c.loop-i.i _ c.loop-i.invariant.1.0 c.loop-i-test.false c.loop-i.invariant.1.1
+returns c = number-end _ _ c.loop-b.b-index _ c.loop-b.invariant.0 c.loop-b-test.false c.loop-b.invariant.1

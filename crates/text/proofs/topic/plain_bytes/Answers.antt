@@ -1,6 +1,6 @@
 -- The answers for `text::topic::plain_bytes`.
 use mathlib.Core.Path.{refl}
-use Prim.Native.Nat.{◌+◌, ◌≤◌, ◌<◌}
+use Prim.Native.Nat.{◌+◌, ◌≤◌}
 use native.Mathlib.Omega.{arith}
 use lib.ListN.{length, get_or}
 use Rattle.text.proofs.Utf8Laws.{ascii-passed}
@@ -9,11 +9,8 @@ use Rattle.text.proofs.PlainLaws.{plain-stands, utf8-plain, control-plain}
 use Rattle.text.proofs.topic.plain_bytes.Goals as goal
 use Rattle.text.proofs.topic.plain_bytes.Goals.{then-s-i-ge4+then-plain, else-s-i-ge4}
 
-pub returns-else-plain : goal.returns-else-plain
-returns-else-plain c = (omega arith, refl, λ rule. refl)
-
-pub loop-i-init : goal.loop-i-init
-loop-i-init c =
+pub loop-k-init : goal.loop-k-init
+loop-k-init c =
     let b = c.type_inv.s in
     let a = c.args in
     let s = a.s.now in
@@ -29,12 +26,11 @@ loop-i-init c =
       | else-s-i-ge4 w ↦ rw w.i-is (omega arith, refl, λ rule. refl)
     ]
 
-pub loop-i-preserved : goal.loop-i-preserved
-loop-i-preserved c =
+pub loop-k-preserved : goal.loop-k-preserved
+loop-k-preserved c =
     let s = c.args.s.now in
-    let l = c.loop-i in
-    let h : l.i < length s = omega arith in (
+    let l = c.loop-k in (
       omega arith,
-      ascii-passed s l.i _ h l.invariant.1 (omega arith),
-      λ rule. control-turn rule s l.i _ h (plain-stands rule (get_or s l.i 0) (omega arith, omega arith)) (l.invariant.2 rule),
+      ascii-passed s l.k _ c.loop-k-test.true l.invariant.1 (omega arith),
+      λ rule. control-turn rule s l.k _ c.loop-k-test.true (plain-stands rule (get_or s l.k 0) (omega arith, omega arith)) (l.invariant.2 rule),
     )

@@ -1,39 +1,27 @@
--- The answers for `text::utf8::follows`.
-use mathlib.Core.Path.{◌≡◌, refl}
-use Prim.Native.Nat.{◌+◌, ◌-◌}
-use native.Mathlib.Omega.{arith}
-use Rattle.text.proofs.Utf8Laws.{due-met, due_below, due-above, due-end}
+-- `text::utf8::follows` meets its contract, from the laws of what is due. Assumes nothing.
+use mathlib.Core.Path.{◌∙◌}
+use mathlib.Core.Bool.{◌&&◌}
+use borrow.Author.Rules.{rules}
+use borrow.Author.Tests.{tests}
+use lib.Dec.{leb}
+use lib.ListN.{drop}
+use Rattle.std.proofs.lemmas.Iterator.{YieldsList-from_slice}
+use Rattle.std.proofs.lemmas.Iterator.Search.{all_from_yields_List}
+use Rattle.le.proofs.SpliceLaws.{lent-tail}
+use Rattle.text.proofs.Utf8Laws.{none-due, not-begun, due-begun}
 use Rattle.text.proofs.utf8.follows.Goals as goal
 
-pub overflow_add-end : goal.overflow_add-end
-overflow_add-end c = omega (arith, c.requires)
+pub returns-in-empty : goal.returns-in-empty
+returns-in-empty c = none-due c.args.s.now c.args.at c.args.d.left _ _ c.requires c.cut.result.now c.cut.ensures c.in-empty.len_below
 
-pub loop-i-init : goal.loop-i-init
-loop-i-init c = (omega arith, omega (arith, c.requires), refl)
+pub returns-then-begun : goal.returns-then-begun
+returns-then-begun c =
+    let p = c.cut.result.now in
+    all_from_yields_List (λ b. leb 0x80 b && leb b 0xBF) _ _ c.all.result c.all.ensures.ran
+    (YieldsList-from_slice (drop 1 p) (c.iter.ensures.rest ∙ lent-tail p 1)) (λ x b q k. search (rules, tests))
+    ∙ due-begun c.args.s.now c.args.at c.args.d.left c.args.d.lo c.args.d.hi c.requires p c.cut.ensures c.in-len1-up.len_at_least c.if-begun.true
 
-pub returns-then-b-lo : goal.returns-then-b-lo
-returns-then-b-lo c =
-    let a = c.args in
-    let l = c.loop-i in
-    let m : a.at + a.d.left - a.at ≡ a.d.left = omega arith in
-    rw m at (due_below a.s.now l.i (a.at + a.d.left) _ (omega arith) (omega arith) l.lo l.hi l.invariant.2 (omega arith))
-
-pub returns-then-hi-b : goal.returns-then-hi-b
-returns-then-hi-b c =
-    let a = c.args in
-    let l = c.loop-i in
-    let m : a.at + a.d.left - a.at ≡ a.d.left = omega arith in
-    rw m at (due-above a.s.now l.i (a.at + a.d.left) _ (omega arith) (omega arith) l.lo l.hi l.invariant.2 (omega arith) (omega arith))
-
-pub loop-i-preserved : goal.loop-i-preserved
-loop-i-preserved c =
-    let a = c.args in
-    let l = c.loop-i in
-    (omega arith, omega arith, due-met a.s.now l.i (a.at + a.d.left) _ (omega arith) (omega arith) l.lo l.hi l.invariant.2 (omega arith) (omega arith))
-
-pub returns : goal.returns
-returns c =
-    let a = c.args in
-    let l = c.loop-i in
-    let m : a.at + a.d.left - a.at ≡ a.d.left = omega arith in
-    rw m at (due-end a.s.now l.i (a.at + a.d.left) _ (omega arith) l.lo l.hi l.invariant.2)
+pub returns-else-begun : goal.returns-else-begun
+returns-else-begun c =
+    c.if-begun.false
+    ∙ not-begun c.args.s.now c.args.at c.args.d.left c.args.d.lo c.args.d.hi c.requires c.cut.result.now c.cut.ensures c.in-len1-up.len_at_least c.if-begun.false
