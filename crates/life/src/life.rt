@@ -1,19 +1,16 @@
 // The steps of a life. A line that begins with no step's word is a heading.
 use crate::buffers::{Buffers, front};
 use crate::lay::{Call, DATA, TOPIC, word_at};
-use crate::{say, show, state, words};
+use crate::{calls, say, show, state, words};
 use cases::{number, number_or, size};
 use host::Host;
 use mounts::look::look_up;
 use mounts::mount::mount;
-use reads::next::next;
-use reads::read::read;
 use record::EventId;
 use saying::word;
 use streams::Streams;
 use text::lines::field;
 use writes::stage::ingress;
-use writes::write::write;
 
 // What a step asks of the host. A call has its arguments at an address.
 #[derive(Clone, Copy)]
@@ -69,12 +66,9 @@ fn asked(streams: &mut Streams, h: Host, ask: Ask, l: &[u8], b: &mut Buffers) ->
             h
         }
         Ask::Begin => {
-            let size = number_or(l, 3, 128) as usize;
             let args = begin_args(l);
-            say::own(
-                streams,
-                h.begin(staging, card, text, le::front(&args, size)),
-            )
+            let given = le::front(&args, number_or(l, 3, 128) as usize);
+            say::own(streams, h.begin(staging, card, text, given))
         }
         Ask::Return => {
             let code = words::returned(l);
@@ -85,24 +79,7 @@ fn asked(streams: &mut Streams, h: Host, ask: Ask, l: &[u8], b: &mut Buffers) ->
             let payload = le::cut(memory, DATA, word_at(memory, 32) as usize);
             say::own(streams, ingress(h, staging, card, text, topic, payload))
         }
-        Ask::Call(Call::Read, at) => {
-            let out = word_at(memory, (at as usize).saturating_add(24)) as usize;
-            let a = read(h, memory, staging, card, text, at);
-            say::page(streams, a, memory, out)
-        }
-        Ask::Call(Call::Next, at) => {
-            let out = word_at(memory, (at as usize).saturating_add(8)) as usize;
-            let a = next(h, memory, staging, card, text, index, at);
-            say::page(streams, a, memory, out)
-        }
-        Ask::Call(Call::Open, at) => say::called(streams, h.open(memory, staging, card, text, at)),
-        Ask::Call(Call::Close, at) => say::called(
-            streams,
-            h.close(memory, staging, card, text, at),
-        ),
-        Ask::Call(Call::Write | Call::Value, at) => {
-            say::called(streams, write(h, memory, staging, card, text, at))
-        }
+        Ask::Call(call, at) => calls::by_module(streams, h, call, at, b),
     }
 }
 

@@ -3,6 +3,7 @@
 #![tactic(auto)]
 
 mod buffers;
+mod calls;
 mod lay;
 mod life;
 mod pages;

@@ -1,6 +1,6 @@
 // What a line is made of. What is answered is said, and the next state given.
 use crate::lay::word_at;
-use crate::{pages, words};
+use crate::words;
 use host::{Answer, Fate, Host, Mounted, Returned};
 use saying::{number, word};
 use streams::Streams;
@@ -39,14 +39,6 @@ pub(crate) fn called(streams: &mut Streams, a: Answer) -> Host {
     answer(streams, a.code, a.value);
     field(streams, a.code.bad(), a.field);
     a.host
-}
-
-// A read or a next, and the page that it has put at `out`.
-pub(crate) fn page(streams: &mut Streams, a: Answer, memory: &[u8], out: usize) -> Host {
-    let n = a.value as usize;
-    let is = called(streams, a);
-    pages::events(streams, memory, out, n);
-    is
 }
 
 // What the host is asked beside a module: no field may come.
