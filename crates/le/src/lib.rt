@@ -46,36 +46,6 @@ fn read_le(s: &[u8], at: usize, w: usize) -> u64
     v
 }
 
-// The same at the two widths that there are. They stand a call below `read_u32` and `read_u64`, so that the compiler has made one load of the bytes before a
-// caller's test, as one against 0, can take them apart (DECISIONS, D34).
-fn four(s: &[u8], at: usize) -> u64
-    requires { at + 4 ≤ length s.now }
-    ensures { result ≡ le_at 4 s.now at }
-{
-    read_le(s, at, 4)
-}
-
-fn eight(s: &[u8], at: usize) -> u64
-    requires { at + 8 ≤ length s.now }
-    ensures { result ≡ le_at 8 s.now at }
-{
-    read_le(s, at, 8)
-}
-
-pub fn read_u32(s: &[u8], at: usize) -> u32
-    requires { at + 4 ≤ length s.now }
-    ensures { result ≡ le_at 4 s.now at }
-{
-    four(s, at) as u32
-}
-
-pub fn read_u64(s: &[u8], at: usize) -> u64
-    requires { at + 8 ≤ length s.now }
-    ensures { result ≡ le_at 8 s.now at }
-{
-    eight(s, at)
-}
-
 // The `w` lowest bytes of `v`, written at `at`, at any width: the one proof of little-endian writing.
 fn put_le(s: &mut [u8], at: usize, w: usize, v: u64)
     requires { at + w ≤ length s.old }
@@ -86,20 +56,6 @@ fn put_le(s: &mut [u8], at: usize, w: usize, v: u64)
         s[at + i] = (rest % 256) as u8;
         rest = rest / 256;
     }
-}
-
-pub fn put_u32(s: &mut [u8], at: usize, v: u32)
-    requires { at + 4 ≤ length s.old }
-    ensures { s.new ≡ splice s.old at (le_bytes 4 v) }
-{
-    put_le(s, at, 4, v as u64);
-}
-
-pub fn put_u64(s: &mut [u8], at: usize, v: u64)
-    requires { at + 8 ≤ length s.old }
-    ensures { s.new ≡ splice s.old at (le_bytes 8 v) }
-{
-    put_le(s, at, 8, v);
 }
 
 // What may stand in bytes: a number by its width, of one value each. Reading and writing are proved once for all of them.
@@ -183,12 +139,21 @@ impl Number for u64 {
     }
 }
 
+// The width is known here, a call below `get`, so that the compiler has made one load of the bytes before a caller's test, as one against 0, can take them apart
+// (DECISIONS, D34).
+fn read<N: Number>(s: &[u8], at: usize) -> u64
+    requires { at + N.WIDTH ≤ length s.now }
+    ensures { result ≡ le_at N.WIDTH s.now at }
+{
+    read_le(s, at, N::WIDTH)
+}
+
 // The number that stands at `at`.
 pub fn get<N: Number>(s: &[u8], at: usize) -> N
     requires { at + N.WIDTH ≤ length s.now }
     ensures { N.value result ≡ le_at N.WIDTH s.now at }
 {
-    N::narrowed(read_le(s, at, N::WIDTH))
+    N::narrowed(read::<N>(s, at))
 }
 
 // It is written at `at`.

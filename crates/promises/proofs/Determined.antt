@@ -7,6 +7,11 @@ use Prim.Native.Nat.{ℕ}
 use borrow.Fn.Kinds.{ParamKind, ResultKind, Dens, res_t, ended_of, Out}
 use denote.Triple.Clauses.{AtExit}
 use contract.Lifetimes.{Lfts}
+use denote.RattleType.{RattleType}
+use denote.Param.Laws.{Laws, IsCopy}
+use mir.Syntax.{Dict}
+use Rattle.std.specs.declared.clone.Clone as Clone
+use Rattle.le.specs.declared.Number as Number
 use Rattle.le.proofs as le
 use Rattle.text.proofs as text
 use Rattle.value.proofs as value
@@ -25,8 +30,8 @@ abbrev pub ResultOnce : {n : ℕ} (ps : List (ParamKind n)) (r : ResultKind n) �
 ResultOnce {n} ps r Q = (κs : Lfts n) (a : Dens κs ps) (z z' : (res_t r κs).Denot) (s s' : AtExit (ended_of n ps r) κs) → Q κs a z s → Q κs a z' s' → z ≡ z'
 
 -- one thing that is seen of two results, or of two exits
-abbrev pub SeenOnce : {n : ℕ} (ps : List (ParamKind n)) (r : ResultKind n) → Out n ps r → ((κs : Lfts n) → (res_t r κs).Denot → AtExit (ended_of n ps r) κs → List ℕ) → Type 0
-SeenOnce {n} ps r Q seen =
+abbrev pub SeenOnce : {A : Type 0} {n : ℕ} (ps : List (ParamKind n)) (r : ResultKind n) → Out n ps r → ((κs : Lfts n) → (res_t r κs).Denot → AtExit (ended_of n ps r) κs → A) → Type 0
+SeenOnce {A} {n} ps r Q seen =
     (κs : Lfts n) (a : Dens κs ps) (z z' : (res_t r κs).Denot) (s s' : AtExit (ended_of n ps r) κs) → Q κs a z s → Q κs a z' s' → seen κs z s ≡ seen κs z' s'
 
 -- two that are equal to a third, by a contract of one clause, of two, of three, of four
@@ -55,15 +60,16 @@ ruleset met = (meet, meet-0, meet-1, meet-1-0, meet-1-1, meet-1-1-0, meet-1-1-1)
 
 -- ---- numbers and runs of bytes
 
+-- `front` at any type, and `get` and `put` at any number, whose value is its own
 pub record LeOnce : Type 0 where
-  pub front : SeenOnce le.front.Kinds.ps le.front.Kinds.r le.front.Reads.Learnt (λ κs z s. z.now)
-  pub first : SeenOnce le.first.Kinds.ps le.first.Kinds.r le.first.Reads.Learnt (λ κs z s. z.now)
+  pub front : (T : RattleType) (laws : Laws T) → SeenOnce (le.front.Kinds.ps T laws) (le.front.Kinds.r T laws) (le.front.Reads.Learnt T laws) (λ κs z s. z.now)
   pub tail : SeenOnce le.tail.Kinds.ps le.tail.Kinds.r le.tail.Reads.Learnt (λ κs z s. z.now)
   pub cut : SeenOnce le.cut.Kinds.ps le.cut.Kinds.r le.cut.Reads.Learnt (λ κs z s. z.now)
-  pub read_u32 : ResultOnce le.read_u32.Kinds.ps le.read_u32.Kinds.r le.read_u32.Reads.Learnt
-  pub read_u64 : ResultOnce le.read_u64.Kinds.ps le.read_u64.Kinds.r le.read_u64.Reads.Learnt
-  pub put-u32-s : SeenOnce le.put_u32.Kinds.ps le.put_u32.Kinds.r le.put_u32.Reads.Learnt (λ κs z s. s.0.now)
-  pub put-u64-s : SeenOnce le.put_u64.Kinds.ps le.put_u64.Kinds.r le.put_u64.Reads.Learnt (λ κs z s. s.0.now)
+  pub get : (N : RattleType) (laws : Laws N) (copies : IsCopy N) (number : Number.Ghosts N.Denot) (d : Dict) (clone : Clone.Ghosts N.Denot) (e : Dict)
+      → ((m n : N.Denot) → number.value m ≡ number.value n → m ≡ n)
+      → ResultOnce (le.get.Kinds.ps N laws copies) (le.get.Kinds.r N laws copies) (le.get.Reads.Learnt N laws copies number d clone e)
+  pub put-s : (N : RattleType) (laws : Laws N) (copies : IsCopy N) (number : Number.Ghosts N.Denot) (d : Dict) (clone : Clone.Ghosts N.Denot) (e : Dict)
+      → SeenOnce (le.put.Kinds.ps N laws copies) (le.put.Kinds.r N laws copies) (le.put.Reads.Learnt N laws copies number d clone e) (λ κs z s. s.0.now)
   pub copy-at-dst : SeenOnce le.copy_at.Kinds.ps le.copy_at.Kinds.r le.copy_at.Reads.Learnt (λ κs z s. s.1.0.now)
   pub lay-dst : SeenOnce le.lay.Kinds.ps le.lay.Kinds.r le.lay.Reads.Learnt (λ κs z s. s.1.0.now)
   pub copy-part-dst : SeenOnce le.copy_part.Kinds.ps le.copy_part.Kinds.r le.copy_part.Reads.Learnt (λ κs z s. s.1.1.1.0.now)
@@ -71,7 +77,19 @@ pub record LeOnce : Type 0 where
   pub zero-between : ResultOnce le.zero_between.Kinds.ps le.zero_between.Kinds.r le.zero_between.Reads.Learnt
 
 pub le-once : LeOnce
-le-once = search met
+le-once =
+    record {
+      front = λ T laws. search met;
+      tail = search met;
+      cut = search met;
+      get = λ N laws copies number d clone e one κs a z z' s s' p q. one z z' (p ∙ sym q);
+      put-s = λ N laws copies number d clone e. search met;
+      copy-at-dst = search met;
+      lay-dst = search met;
+      copy-part-dst = search met;
+      zero-range-dst = search met;
+      zero-between = search met;
+    }
 
 -- ---- texts
 

@@ -51,7 +51,7 @@ fn plain_front(s: &[u8]) -> usize
 {
     let mut i = 0;
     while 8 <= s.len() - i {
-        if plain(le::read_u64(s, i)) {
+        if plain(le::get::<u64>(s, i)) {
             i += 8;
         } else {
             return i;
@@ -67,7 +67,7 @@ fn plain_bytes(s: &[u8], from: usize) -> usize
 {
     let mut i = from;
     if 4 <= s.len() - i {
-        if plain(le::read_u32(s, i) as u64 + 0x2020_2020_0000_0000) {
+        if plain(le::get::<u32>(s, i) as u64 + 0x2020_2020_0000_0000) {
             i += 4;
         } else {
             return i;

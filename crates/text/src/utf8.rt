@@ -60,7 +60,7 @@ fn past_ascii(s: &[u8], at: usize) -> usize
     let mut i = at;
     while 8 <= s.len() - i {
         // A byte above 127 has the highest bit.
-        if le::read_u64(s, i) & 0x8080_8080_8080_8080 != 0 {
+        if le::get::<u64>(s, i) & 0x8080_8080_8080_8080 != 0 {
             return i;
         }
         i += 8;

@@ -3,4 +3,4 @@ use Rattle.le.proofs.LeLaws.{le_at-lt}
 use Rattle.le.proofs.get.Goals as goal
 
 pub narrowed-requires : goal.narrowed-requires
-narrowed-requires g c = rw c.read_le.ensures (rw c.WIDTH.ensures (le_at-lt _ _ _ c.type_inv.s))
+narrowed-requires g c = rw c.read.ensures (le_at-lt _ _ _ c.type_inv.s)

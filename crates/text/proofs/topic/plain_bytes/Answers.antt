@@ -20,8 +20,8 @@ loop-k-init c =
           let p = w.plain.ensures w.if-plain.true in
           rw w.i-is (
             l,
-            utf8-plain 4 s a.from _ l b (omega arith) _ 0x20202020 (omega (arith, w.read_u32.ensures)) p refl,
-            λ rule. control-plain 4 s a.from _ l b (omega arith) _ 0x20202020 (omega (arith, w.read_u32.ensures)) p rule refl,
+            utf8-plain 4 s a.from _ l b (omega arith) _ 0x20202020 (omega (arith, w.get.ensures)) p refl,
+            λ rule. control-plain 4 s a.from _ l b (omega arith) _ 0x20202020 (omega (arith, w.get.ensures)) p rule refl,
           )
       | else-s-i-ge4 w ↦ rw w.i-is (omega arith, refl, λ rule. refl)
     ]

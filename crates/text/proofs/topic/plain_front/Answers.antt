@@ -12,7 +12,7 @@ loop-i-preserved c =
     let b = c.type_inv.s in
     let s = c.args.s.now in
     let l = c.loop-i in
-    let v = c.read_u64 in
+    let v = c.get in
     let p = c.plain.ensures c.if-plain.true in (
       omega arith,
       utf8-plain 8 s l.i _ (omega arith) b (omega arith) v.result 0 (omega (arith, v.ensures)) p l.invariant.1,
