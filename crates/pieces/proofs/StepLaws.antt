@@ -154,14 +154,15 @@ next-at piece at = go (length (before 10 (drop at piece))) ∙ sym (drop-drop (s
         on (passes e) = rw e (ap (λ (j : ℕ). drop j piece) {x = at + k + 1} {y = at + suc k} (omega arith))
         on (fails e) = rw e (drop_of_length-le piece (ltb-false (at + k) (length piece) e) ∙ sym (drop_of_length-le piece {i = at + suc k} (omega (arith, ltb-false (at + k) (length piece) e))))
 
-pub feed-more : (piece : List ℕ) (at at' : ℕ) (s s' : Stand) (o o' : List ℕ) (n : ℕ) (all : Stand) → Hears (one_line s (drop at piece)) s' o o' n
-    → at' ≡ (gathered piece at 0).at → (fed s (drop at piece)).stand ≡ all → (fed s' (drop at' piece)).stand ≡ all
-feed-more piece at at' s s' o o' n all h e i =
-    rw (h.stand, e, next-at piece at) (sym (ap (λ (x : Heard). x.stand) (fed-line s (drop at piece))) ∙ i)
+pub feed-more : (rest rest' : List ℕ) (k : ℕ) (s s' : Stand) (o o' : List ℕ) (n : ℕ) (all : Stand) → Hears (one_line s rest) s' o o' n
+    → k ≡ (gathered rest 0 0).at → rest' ≡ drop k rest → (fed s rest).stand ≡ all → (fed s' rest').stand ≡ all
+feed-more rest rest' k s s' o o' n all h e er i =
+    rw (h.stand, er, e, next-at rest 0) (sym (ap (λ (x : Heard). x.stand) (fed-line s rest)) ∙ i)
 
-pub feed-done : (piece : List ℕ) (at : ℕ) (s all : Stand) → length piece ≤ at → (fed s (drop at piece)).stand ≡ all → s ≡ all
+pub feed-done : (rest : List ℕ) (s all : Stand) → length rest ≡ 0 → (fed s rest).stand ≡ all → s ≡ all
 unfolding fed
-feed-done piece at s all h i = rw (drop_of_length-le piece h) at i
+feed-done [] s all h i = i
+feed-done (b ∷ bs) s all h i = absurd (omega arith)
 
 -- ---- the end of the input
 

@@ -1,5 +1,5 @@
 // A piece of input, line by line, and the end of the input.
-ghost use Rattle.std.specs.Prelude.{◌≡◌, drop};
+ghost use Rattle.std.specs.Prelude.{◌≡◌};
 ghost use Rattle.script.specs.Gathering.{gathered};
 ghost use Rattle.pieces.specs.Feeding.{stand_of, Hears, one_line, fed, last_line, ended};
 
@@ -14,32 +14,27 @@ fn tell(streams: &mut Streams, out: &Buffer, n: usize) {
 }
 
 impl Play {
-    // The line that begins at `at` of a piece, or what there is of it. What it says is put at the front of `out`.
-    pub fn step(&mut self, piece: &[u8], at: usize, out: &mut Buffer) -> Step
-        ensures hears { Hears (one_line (stand_of self.old) (drop at piece.now)) (stand_of self.new) out.old out.new result.wrote }
-        ensures at_value { result.at ≡ (gathered piece.now at 0).at }
+    // The line at the head of a piece, or what there is of it. What it says is put at the front of `out`.
+    pub fn step(&mut self, piece: &[u8], out: &mut Buffer) -> Step
+        ensures hears { Hears (one_line (stand_of self.old) piece.now) (stand_of self.new) out.old out.new result.wrote }
+        ensures took { result.took ≡ (gathered piece.now 0 0).at }
     {
         let held = le::front(&self.line, self.held).len();
-        let g = gather(piece, at, &mut self.line, held);
+        let g = gather(piece, 0, &mut self.line, held);
         self.held = g.held;
-        if g.whole {
-            return Step {
-                wrote: self.closed(out),
-                at: g.at,
-            };
-        }
-        Step { wrote: 0, at: g.at }
+        let wrote = if g.whole { self.closed(out) } else { 0 };
+        Step { wrote, took: g.at }
     }
 
     // One piece.
     pub fn feed(&mut self, streams: &mut Streams, piece: &[u8], out: &mut Buffer)
         ensures { stand_of self.new ≡ (fed (stand_of self.old) piece.now).stand }
     {
-        let mut at = 0;
-        while at < piece.len() {
-            let s = self.step(piece, at, out);
+        let mut rest = piece;
+        while !rest.is_empty() {
+            let s = self.step(rest, out);
             tell(streams, out, s.wrote);
-            at = s.at;
+            rest = le::tail(rest, s.took);
         }
     }
 

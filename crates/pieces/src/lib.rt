@@ -19,9 +19,9 @@ pub struct Play {
     pub held: usize, // bytes of the line under way, at the front of its buffer
 }
 
-// How many bytes were printed for a line, and where the next one begins.
+// How many bytes were printed for a line, and how many of the piece it took.
 #[derive(Drop)]
 pub struct Step {
     pub wrote: usize,
-    pub at: usize,
+    pub took: usize,
 }

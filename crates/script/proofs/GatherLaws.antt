@@ -8,7 +8,7 @@ use native.Mathlib.Omega.{arith}
 use native.Mathlib.Nat.{add-zero, add-sub_cancel_left}
 use lib.Dec.{ltb}
 use lib.ListN.{length, drop, length-drop}
-use borrow.Author.Tests.{le-leb, lt-leb, lt-ltb, le-ltb, ltb-false}
+use borrow.Author.Tests.{le-leb, lt-ltb, le-ltb, ltb-false}
 use Rattle.le.proofs.TestLaws.{Tested, tested, passes, fails}
 use Rattle.le.specs.Splice.{splice, part}
 use Rattle.le.proofs.SpliceLaws.{splice-nil}
@@ -16,17 +16,9 @@ use Rattle.text.specs.Lines.{before}
 use Rattle.text.proofs.LinesLaws.{before-short, before-take}
 use Rattle.script.specs.Gathering.{more, held_with, gathered}
 
-pub held_same : (held n : ℕ) → n ≡ 0 → held ≡ held_with held n
+held_same : (held n : ℕ) → n ≡ 0 → held ≡ held_with held n
 unfolding held_with
 held_same held n e = rw (e, le-leb 0 (65536 - held) (omega arith)) (omega arith)
-
-pub held-full : (held n : ℕ) → 65536 < held + n → (n ≡ 0 → ⊥) → 65536 ≡ held_with held n
-unfolding held_with
-held-full held n h z = rw (lt-leb n (65536 - held) (omega arith))
-
-pub held_more : (held n : ℕ) → held + n ≤ 65536 → held + n ≡ held_with held n
-unfolding held_with
-held_more held n h = rw (le-leb n (65536 - held) (omega arith))
 
 none_more : (piece : List ℕ) (at : ℕ) → length piece ≤ at → length (more piece at) ≡ 0
 unfolding more

@@ -41,16 +41,13 @@ put_one s at b h = record { laid = set-splice s at b; ends = refl; whole = h }
 
 pub prints-then : (p q r : Printer) (xs ys : List ℕ) → Prints p q xs → Prints q r ys → Prints p r (xs ++ ys)
 prints-then p q r xs ys a b =
-    record { same = b.same ∙ a.same; put = put_then p.out.now q.out.now r.out.now p.at q.at r.at xs ys a.put b.put }
+    record { same = b.same ∙ a.same; long = b.long ∙ a.long; put = put_then p.out.now q.out.now r.out.now p.at q.at r.at xs ys a.put b.put }
 
 pub prints-from : (p p' q : Printer) (xs : List ℕ) → p ≡ p' → Prints p q xs → Prints p' q xs
 prints-from p p' q xs e a = rw e at a
 
 pub prints_as : (p q : Printer) (xs ys : List ℕ) → Prints p q xs → xs ≡ ys → Prints p q ys
 prints_as p q xs ys a e = rw e at a
-
-pub prints-long : (p q : Printer) (xs : List ℕ) → Prints p q xs → length q.out.now ≡ length p.out.now
-prints-long p q xs a = put-long p.out.now q.out.now p.at q.at xs a.put
 
 -- ---- digits
 

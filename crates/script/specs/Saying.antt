@@ -44,7 +44,8 @@ pub record Put (s₀ s : List ℕ) (at : ℕ) (bytes : List ℕ) (r : ℕ) : Typ
   pub ends : r ≡ at + length bytes
   pub whole : r ≤ length s₀
 
--- p has become q: these bytes were printed behind those before, into the same buffer
+-- p has become q: these bytes were printed behind those before, into the same buffer, which is as long as it was
 pub record Prints (p q : Printer) (bytes : List ℕ) : Type 0 where
   pub same : q.out.ghost_name ≡ p.out.ghost_name
+  pub long : length q.out.now ≡ length p.out.now
   pub put : Put p.out.now q.out.now p.at bytes q.at

@@ -16,16 +16,11 @@ pub struct Gathered {
 fn held_with(held: usize, n: usize) -> usize
     ensures { result ≡ held_with held n }
 {
-    if 65536 < held {
-        if n == 0 {
-            return held;
-        }
-        return 65536;
+    if n <= 65536_usize.saturating_sub(held) {
+        held + n
+    } else {
+        65536
     }
-    if 65536 - held < n {
-        return 65536;
-    }
-    held + n
 }
 
 // More of the line of which `held` bytes stand in `line`: from `at` on of the piece, up to its end or the line's.

@@ -4,7 +4,6 @@ ghost use Rattle.session.specs.Sessions.{counted, became, fresh_session, no_byte
 
 use crate::{Buffers, Phase, Session};
 use host::Host;
-use weave::sums::added;
 
 impl Buffers {
     // Every byte is 0.
@@ -38,7 +37,7 @@ impl Session {
     pub(crate) fn counted(self) -> u64
         ensures { result ≡ counted self }
     {
-        added(self.lines, 1, 0xFFFF_FFFF_FFFF_FFFF)
+        self.lines.saturating_add(1)
     }
 
     pub(crate) fn becomes(&mut self, phase: Phase, size: usize, host: Host)
