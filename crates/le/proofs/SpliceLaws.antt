@@ -58,13 +58,6 @@ splice-turn xs k j b rest rest' all ej e h = rw ej (sym (splice-cons xs k b rest
 pub splice-done : (xs : List ℕ) (k : ℕ) (rest all : List ℕ) → rest ≡ [] → splice xs k rest ≡ all → xs ≡ all
 splice-done xs k rest all e h = sym (splice-nil xs k) ∙ ap (splice xs k) (sym e) ∙ h
 
--- n zeros, one first
-pub zeros-cons : (n m : ℕ) → n ≡ suc m → zeros n ≡ 0 ∷ zeros m
-zeros-cons n m e = rw e
-
-pub zeros-none : (n : ℕ) → n ≡ 0 → zeros n ≡ []
-zeros-none n e = rw e
-
 -- a list from i on, its head first
 pub drop_head : (s : List ℕ) (i j : ℕ) → i < length s → j ≡ suc i → drop i s ≡ get_or s i 0 ∷ drop j s
 drop_head s i j h e = rw e (drop-cons s i 0 h)
