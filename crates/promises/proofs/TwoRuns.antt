@@ -71,7 +71,7 @@ use Rattle.promises.proofs.ListHolds.{means-listed}
 use Rattle.promises.proofs.RunLaws.{no_bytes, long, At, one_more, empty_box, mount-ok, mount-host, mount-table, at_first}
 use Rattle.promises.proofs.MovesHold.{next-hands}
 use Rattle.promises.proofs.PagesHold.{page-is, look-sound}
-use Rattle.promises.proofs.TwoLaws.{long-memory, said-good, said-first, said-two, may-write, may-read, topic-is, write-args, read-args, open-args, next-args, close-arg, records-fine, topic-fine, filter-fine, out-fine, no-panic, data-fine, len-fine, raw, memory-bytes, topic-long, data-none, topic-read}
+use Rattle.promises.proofs.TwoLaws.{long-memory, said-good, said-first, said-two, may-write, may-read, topic-is, write-args, read-args, open-args, next-args, close-arg, records-fine, topic-fine, filter-fine, out-fine, no-panic, data-fine, len-fine, raw, memory-bytes, topic-long, topic-read}
 
 one-listed : (p : List ℕ → Bool) (d : Bool) (k : ℕ) (r : List ℕ) → d ≡ false → k ≡ 9 → p r ≡ true → take k (only p (in_order d (r ∷ []))) ≡ r ∷ []
 unfolding only in_order
@@ -136,8 +136,8 @@ module _ (n c t : ℕ) (n-least : 65536 ≤ n) (n-most : n ≤ 1048576) (c-least
     value_len = len-fine;
     granted = rw topic-read may-write;
     value = ap (λ (k : Result ℕ Fault). is_ok k) raw;
-    room = λ p. rw (topic-long, data-none, staging₁, le-leb 136 n (omega arith));
-    budget = λ p. rw (said-first, topic-long, data-none) (omega arith);
+    room = λ p. rw (raw, topic-long, staging₁, le-leb 136 n (omega arith));
+    budget = λ p. rw (said-first, raw, topic-long) (omega arith);
   }
 
   e₁ : is_refused (step w₁ (Write memory 8)).said ≡ false
@@ -196,7 +196,7 @@ module _ (n c t : ℕ) (n-least : 65536 ≤ n) (n-most : n ≤ 1048576) (c-least
 
   staged₂ : w₂.host.weave.staged ≡ 136
   unfolding with_weave holding paid begun begun_weave
-  staged₂ = rw (topic-long, data-none) (added-sum 0 136 (length w₁.lent.staging) (omega (arith, staging₁)))
+  staged₂ = rw (raw, topic-long) (added-sum 0 136 (length w₁.lent.staging) (omega (arith, staging₁)))
 
   count₂ : w₂.host.weave.count ≡ 1
   unfolding with_weave holding paid begun begun_weave added
@@ -236,7 +236,7 @@ module _ (n c t : ℕ) (n-least : 65536 ≤ n) (n-most : n ≤ 1048576) (c-least
     granted = rw (read-args, topic-is) may-read.1;
     sound = at₃.agrees.carried;
     room = rw (list₃, read-args, page₃);
-    budget = rw (list₃, read-args, page₃, said-first, topic-long, data-none) (omega arith);
+    budget = rw (list₃, read-args, page₃, said-first, raw, topic-long) (omega arith);
   }
 
   e₃ : is_refused (step w₃ (Read memory 48)).said ≡ false
