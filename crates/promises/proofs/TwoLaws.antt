@@ -18,9 +18,7 @@ use Rattle.text.specs.Span.{inside}
 use Rattle.text.specs.Topic.{good_text, no_control}
 use Rattle.text.specs.Utf8.{utf8, utf8_from, after}
 use Rattle.text.specs.Words.{panic_topic, core_topic, log_topic}
-use Rattle.std.specs.Prelude.{Result, Ok}
-use Rattle.std.specs.Result.{result_unwrap_or}
-use Rattle.value.specs.declared.Fault.{Fault}
+use Rattle.std.specs.Prelude.{Ok}
 use Rattle.manifest.specs.Line.{number_in, modules_in, charge_in, one_to, holder_in, grant_form, right_in}
 use Rattle.manifest.specs.Rights.{granted, any_gives, gives}
 use Rattle.manifest.specs.Words.{modules_word, charge_word, grant_word, in_word, out_word}
@@ -30,7 +28,7 @@ use Rattle.manifest.specs.Head.{optional, beyond, modules_of, head_of, grant_lin
 use Rattle.manifest.specs.Saying.{is_good, modules_said, manifest_of, charge_of, good_head, grants_said, good_grants, all_grants, may_read, may_write}
 use Rattle.weave.specs.Args.{record_fine, field_at, write_args, read_args, open_args, next_args, close_handle, topic_fine, filter_fine, out_fine, data_fine, len_fine}
 use Rattle.takes.specs.Payloads.{payload_checked}
-use Rattle.writes.specs.Stage.{is_panic, written_topic, data_len}
+use Rattle.writes.specs.Stage.{is_panic, written_topic}
 use Rattle.promises.specs.TwoWeaves.{two_modules, memory}
 
 pub long-memory : length memory ≡ 312
@@ -134,9 +132,6 @@ memory-bytes = bytes_below memory refl
 
 pub topic-long : (write_args memory 8).topic.len ≡ 1
 topic-long = rw write-args
-
-pub data-none : data_len memory 8 ≡ 0
-data-none = ap (λ (k : Result ℕ Fault). result_unwrap_or k 0) raw
 
 pub topic-read : written_topic memory 8 ≡ 116 ∷ []
 topic-read = rw (write-args, topic-is)
