@@ -21,7 +21,7 @@ use streams::Streams;
 use text::lines::field;
 
 fn case(streams: &mut Streams, l: &[u8]) {
-    let sample = Sample::numbered(half(l, 1));
+    let sample = Sample::from(half(l, 1));
     match field(l, 0) {
         b"field" => questions::field(streams, sample, size(l, 2), size(l, 3)),
         b"part" => questions::part(streams, sample, size(l, 2), number(l, 3)),

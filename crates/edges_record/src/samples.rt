@@ -13,8 +13,8 @@ pub(crate) enum Sample {
     Empty, // an empty string: flags 2, module 1, topic `a`
 }
 
-impl Sample {
-    pub(crate) fn numbered(n: u32) -> Sample {
+impl From<u32> for Sample {
+    fn from(n: u32) -> Sample {
         match n {
             1 => Sample::Raw,
             2 => Sample::Ingress,
@@ -25,7 +25,9 @@ impl Sample {
             _ => Sample::Empty,
         }
     }
+}
 
+impl Sample {
     pub(crate) fn name(self) -> &'static [u8] {
         match self {
             Sample::Raw => b"raw",

@@ -52,6 +52,7 @@ impl Streams {
         ensures len { result ≡ length (take result buffer.new) }
         ensures first { IsSome self.old.failed → self.new.failed ≡ self.old.failed }
     {
+        // (How far a step goes only the read knows: no range and no chain has these steps.)
         let mut done = 0;
         while done < buffer.len() {
             let n = self.read(&mut buffer[done..]);

@@ -18,6 +18,6 @@ returns g c = (
   (c.loop-rest.case, c.loop-rest.streams),
   refl,
   c.loop-rest.invariant.1 _ (rw (no-line c.loop-rest.rest.now (search rules)) refl),
-  c.outcome.ensures.ok,
-  c.outcome.ensures.err,
+  search rules,
+  search rules,
 )
