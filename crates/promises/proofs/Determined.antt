@@ -5,6 +5,8 @@ use mathlib.Core.Path.{◌≡◌, sym, ◌∙◌}
 use mathlib.Core.List.{List}
 use Prim.Native.Nat.{ℕ}
 use borrow.Fn.Kinds.{ParamKind, ResultKind, Dens, res_t, ended_of, Out}
+use denote.Param.Laws.{Laws}
+use denote.RattleType.{RattleType}
 use denote.Triple.Clauses.{AtExit}
 use contract.Lifetimes.{Lfts}
 use Rattle.le.proofs as le
@@ -28,6 +30,14 @@ ResultOnce {n} ps r Q = (κs : Lfts n) (a : Dens κs ps) (z z' : (res_t r κs).D
 abbrev pub SeenOnce : {n : ℕ} (ps : List (ParamKind n)) (r : ResultKind n) → Out n ps r → ((κs : Lfts n) → (res_t r κs).Denot → AtExit (ended_of n ps r) κs → List ℕ) → Type 0
 SeenOnce {n} ps r Q seen =
     (κs : Lfts n) (a : Dens κs ps) (z z' : (res_t r κs).Denot) (s s' : AtExit (ended_of n ps r) κs) → Q κs a z s → Q κs a z' s' → seen κs z s ≡ seen κs z' s'
+
+-- the same of a function over any type: of a slice of that type
+abbrev pub EachSeenOnce : {n : ℕ} (ps : (T : RattleType) → Laws T → List (ParamKind n)) (r : (T : RattleType) → Laws T → ResultKind n)
+    → ((T : RattleType) (L : Laws T) → Out n (ps T L) (r T L))
+    → ((T : RattleType) (L : Laws T) (κs : Lfts n) → (res_t (r T L) κs).Denot → AtExit (ended_of n (ps T L) (r T L)) κs → List T.Denot) → Type 2
+EachSeenOnce {n} ps r Q seen =
+    (T : RattleType) (L : Laws T) (κs : Lfts n) (a : Dens κs (ps T L)) (z z' : (res_t (r T L) κs).Denot) (s s' : AtExit (ended_of n (ps T L) (r T L)) κs)
+    → Q T L κs a z s → Q T L κs a z' s' → seen T L κs z s ≡ seen T L κs z' s'
 
 -- two that are equal to a third, by a contract of one clause, of two, of three, of four
 pub meet : {A : Type 0} {x y z : A} → x ≡ z → y ≡ z → x ≡ y
@@ -55,9 +65,8 @@ ruleset met = (meet, meet-0, meet-1, meet-1-0, meet-1-1, meet-1-1-0, meet-1-1-1)
 
 -- ---- numbers and runs of bytes
 
-pub record LeOnce : Type 0 where
-  pub front : SeenOnce le.front.Kinds.ps le.front.Kinds.r le.front.Reads.Learnt (λ κs z s. z.now)
-  pub first : SeenOnce le.first.Kinds.ps le.first.Kinds.r le.first.Reads.Learnt (λ κs z s. z.now)
+pub record LeOnce : Type 2 where
+  pub front : EachSeenOnce le.front.Kinds.ps le.front.Kinds.r le.front.Reads.Learnt (λ T L κs z s. z.now)
   pub tail : SeenOnce le.tail.Kinds.ps le.tail.Kinds.r le.tail.Reads.Learnt (λ κs z s. z.now)
   pub cut : SeenOnce le.cut.Kinds.ps le.cut.Kinds.r le.cut.Reads.Learnt (λ κs z s. z.now)
   pub read_u32 : ResultOnce le.read_u32.Kinds.ps le.read_u32.Kinds.r le.read_u32.Reads.Learnt
