@@ -103,6 +103,11 @@ some n lo hi [] h l = absurd (omega arith)
 some zero lo hi (b ∷ p) h l = absurd (omega arith)
 some (suc n) lo hi (b ∷ p) h l = ap (λ (r : Bool). within (to lo hi) b && r) (tails-met n p (omega arith))
 
+-- what `&s[at..at + n]` is
+pub lent-part : (s : List ℕ) (at n : ℕ) → take (at + n - at) (drop at s) ≡ part at n s
+unfolding part
+lent-part s at n = let k : at + n - at ≡ n = omega arith in rw k
+
 module _ (s : List ℕ) (at n lo hi : ℕ) (h : at + n ≤ length s) (p : List ℕ) (e : p ≡ part at n s) where
   so_many : length p ≡ n
   so_many = rw e (length_part at n s h)

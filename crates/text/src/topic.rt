@@ -49,15 +49,13 @@ fn plain(eight: u64) -> bool
 fn plain_front(s: &[u8]) -> usize
     ensures { (result ≤ length s.now) × (utf8 (drop result s.now) ≡ utf8 s.now) × ((rule : Rule) → no_control rule (drop result s.now) ≡ no_control rule s.now) }
 {
-    let mut i = 0;
-    while 8 <= s.len() - i {
-        if plain(le::get::<u64>(s, i)) {
-            i += 8;
-        } else {
-            return i;
+    let eights = s.len() / 8;
+    for k in 0..eights {
+        if !plain(le::get::<u64>(s, 8 * k)) {
+            return 8 * k;
         }
     }
-    i
+    8 * eights
 }
 
 // The same on from a place: four at once, with four spaces in place of the others, and then byte by byte.

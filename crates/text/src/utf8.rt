@@ -43,7 +43,7 @@ fn follows(s: &[u8], at: usize, d: Due) -> bool
     requires { at + d.left ≤ length s.now }
     ensures { result ≡ utf8_from (due d.left d.lo d.hi) (part at d.left s.now) }
 {
-    match le::cut(s, at, d.left) {
+    match &s[at..at + d.left] {
         [] => true,
         [b, others @ ..] => {
             let begun = (d.lo <= *b) & (*b <= d.hi);
@@ -58,6 +58,7 @@ fn past_ascii(s: &[u8], at: usize) -> usize
     ensures { (at ≤ result) × (utf8 (drop result s.now) ≡ utf8 (drop at s.now)) }
 {
     let mut i = at;
+    // (A `for` over the eights makes the check of lyrics a fifth slower, and that of ASCII a seventh.)
     while 8 <= s.len() - i {
         // A byte above 127 has the highest bit.
         if le::get::<u64>(s, i) & 0x8080_8080_8080_8080 != 0 {
