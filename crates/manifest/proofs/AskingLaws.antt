@@ -1,6 +1,6 @@
 -- The laws that questions ask for: one grant by the tests that `Grant::gives` makes, and the loop of `granted`.
 -- Assumes nothing.
-use mathlib.Core.Path.{◌≡◌, sym, ap₂, ◌∙◌}
+use mathlib.Core.Path.{◌≡◌, sym, ap, ◌∙◌}
 use mathlib.Core.Bool.{Bool, true, false, not, ◌&&◌, beq}
 use mathlib.Core.List.{List, ◌∷◌, map}
 use Prim.Native.Nat.{ℕ, ◌+◌, ◌≤◌, ◌<◌}
@@ -36,42 +36,32 @@ module _ (g : Grant) (text : List ℕ) (k : ℕ) (out : Bool) (topic : List ℕ)
 
 -- ---- grant by grant: the grants from i on give what all of them give
 
-pub record Asking (m : Manifest) (text : List ℕ) (k : ℕ) (out : Bool) (topic : List ℕ) (i : ℕ) : Type 0 where
-  pub under : i ≤ m.count
-  pub room : length m.grants ≡ 64
-  pub same : any_gives (map (right_at text) (drop i (take m.count m.grants))) k out topic ≡ granted (rights_of m text) k out topic
+pub record Asking (gs : List Grant) (text : List ℕ) (k : ℕ) (out : Bool) (topic : List ℕ) (i : ℕ) : Type 0 where
+  pub same : any_gives (map (right_at text) (drop i gs)) k out topic ≡ granted (map (right_at text) gs) k out topic
 
-module _ (m : Manifest) (text : List ℕ) (k : ℕ) (out : Bool) (topic : List ℕ) where
-  pub asking-core : (b : Bool) → b ≡ core_topic topic → (out && b) ≡ true → true ≡ granted (rights_of m text) k out topic
+module _ (gs : List Grant) (text : List ℕ) (k : ℕ) (out : Bool) (topic : List ℕ) where
+  pub asking-core : (b : Bool) → b ≡ core_topic topic → (out && b) ≡ true → true ≡ granted (map (right_at text) gs) k out topic
   unfolding granted
   asking-core b e q = rw (← e, q)
 
-  pub asking-start : (b : Bool) → b ≡ core_topic topic → (out && b) ≡ false → length m.grants ≡ 64 → Asking m text k out topic 0
-  unfolding granted rights_of
-  asking-start b e q l = record { under = omega arith; room = l; same = rw (← e, q) }
+  pub asking-start : (b : Bool) → b ≡ core_topic topic → (out && b) ≡ false → Asking gs text k out topic 0
+  unfolding granted
+  asking-start b e q = record { same = rw (← e, q) }
 
-  module _ (i : ℕ) (w : Asking m text k out topic i) where
-    over : length (take m.count m.grants) ≤ i → false ≡ granted (rights_of m text) k out topic
+  module _ (i : ℕ) (w : Asking gs text k out topic i) where
+    pub asking-end : length gs ≤ i → false ≡ granted (map (right_at text) gs) k out topic
     unfolding any_gives
-    over h = rw (drop_of_length-le (take m.count m.grants) h) at w.same
-
-    pub asking-end : m.count ≤ i → false ≡ granted (rights_of m text) k out topic
-    asking-end h = over (rw length-take (omega arith))
-
-    pub asking-past : 64 ≤ i → false ≡ granted (rights_of m text) k out topic
-    asking-past h = over (rw length-take (omega (arith, w.room)))
+    asking-end h = rw (drop_of_length-le gs h) at w.same
 
     -- the grant at i, and those behind it
-    module _ (h : i < m.count) (l : i < 64) (d : Grant) (b : Bool) (e : b ≡ gives (right_at text (get_or m.grants i d)) k out topic) where
-      next : drop i (take m.count m.grants) ≡ get_or m.grants i d ∷ drop (i + 1) (take m.count m.grants)
-      next =
-          drop-cons (take m.count m.grants) i d (rw length-take (omega (arith, w.room)))
-          ∙ ap₂ (λ (g : Grant) (j : ℕ). g ∷ drop j (take m.count m.grants)) (get_or-take m.count m.grants i d h) (sym (add-one i))
+    module _ (h : i < length gs) (d : Grant) (b : Bool) (e : b ≡ gives (right_at text (get_or gs i d)) k out topic) where
+      next : drop i gs ≡ get_or gs i d ∷ drop (i + 1) gs
+      next = drop-cons gs i d h ∙ ap (λ (j : ℕ). get_or gs i d ∷ drop j gs) (sym (add-one i))
 
-      pub asking-yes : b ≡ true → true ≡ granted (rights_of m text) k out topic
+      pub asking-yes : b ≡ true → true ≡ granted (map (right_at text) gs) k out topic
       unfolding any_gives
       asking-yes q = rw (next, ← e, q) at w.same
 
-      pub asking-no : b ≡ false → Asking m text k out topic (i + 1)
+      pub asking-no : b ≡ false → Asking gs text k out topic (i + 1)
       unfolding any_gives
-      asking-no q = record { under = omega arith; room = w.room; same = rw (next, ← e, q) at w.same }
+      asking-no q = record { same = rw (next, ← e, q) at w.same }

@@ -44,65 +44,55 @@ held-may text k = λ i topic. (held_gives text k topic (take (read_of text).coun
 
 -- ---- the loop that puts them together: what the grants from i on bring, put behind the j numbers that there are, gives what all of them bring
 
-pub record Holding (m : Manifest) (k : ℕ) (places₀ places : List ℕ) (j i : ℕ) : Type 0 where
-  pub grants : length m.grants ≡ 64
-  pub under : i ≤ m.count
-  pub few : i ≤ 64
+pub record Holding (gs : List Grant) (k : ℕ) (places₀ places : List ℕ) (j i : ℕ) : Type 0 where
+  pub few : length gs ≤ 64
+  pub under : i ≤ length gs
   pub twice : j ≤ 2 * i
   pub room : 128 ≤ length places
   pub long : length places ≡ length places₀
-  pub rest : splice places j (held_in k (drop i (take m.count m.grants))) ≡ splice places₀ 0 (held_of m k)
-  pub many : j + length (held_in k (drop i (take m.count m.grants))) ≡ length (held_of m k)
+  pub rest : splice places j (held_in k (drop i gs)) ≡ splice places₀ 0 (held_in k gs)
+  pub many : j + length (held_in k (drop i gs)) ≡ length (held_in k gs)
 
-module _ (m : Manifest) (k : ℕ) (places₀ : List ℕ) where
-  pub holding-start : length m.grants ≡ 64 → 128 ≤ length places₀ → Holding m k places₀ places₀ 0 0
-  holding-start l r = record { grants = l; under = omega arith; few = omega arith; twice = omega arith; room = r; long = refl; rest = refl; many = omega arith }
+module _ (gs : List Grant) (k : ℕ) (places₀ : List ℕ) where
+  pub holding-start : length gs ≤ 64 → 128 ≤ length places₀ → Holding gs k places₀ places₀ 0 0
+  holding-start l r = record { few = l; under = omega arith; twice = omega arith; room = r; long = refl; rest = refl; many = omega arith }
 
-module _ {m : Manifest} {k : ℕ} {places₀ places : List ℕ} {j i : ℕ} (w : Holding m k places₀ places j i) where
+module _ {gs : List Grant} {k : ℕ} {places₀ places : List ℕ} {j i : ℕ} (w : Holding gs k places₀ places j i) where
   pub record Held : Type 0 where
-    pub many : j ≡ length (held_of m k)
-    pub put : places ≡ splice places₀ 0 (held_of m k)
-    pub front : take j places ≡ held_of m k
+    pub many : j ≡ length (held_in k gs)
+    pub put : places ≡ splice places₀ 0 (held_in k gs)
+    pub front : take j places ≡ held_in k gs
 
-  over : length (take m.count m.grants) ≤ i → Held
+  pub holding-end : length gs ≤ i → Held
   unfolding held_in
-  over h =
-      let none : held_in k (drop i (take m.count m.grants)) ≡ [] = rw (drop_of_length-le (take m.count m.grants) h) in
-      let many : j ≡ length (held_of m k) = sym (add-zero j) ∙ (rw none at w.many) in
-      let put : places ≡ splice places₀ 0 (held_of m k) = splice-done places j _ _ none w.rest in
+  holding-end h =
+      let none : held_in k (drop i gs) ≡ [] = rw (drop_of_length-le gs h) in
+      let many : j ≡ length (held_in k gs) = sym (add-zero j) ∙ (rw none at w.many) in
+      let put : places ≡ splice places₀ 0 (held_in k gs) = splice-done places j _ _ none w.rest in
       record {
         many = many;
         put = put;
         front =
-            rw (put, many ∙ sym (zero-add (length (held_of m k))))
-            (take-splice-end places₀ 0 (held_of m k) (omega (arith, many, w.twice, w.few, w.room, w.long)));
+            rw (put, many ∙ sym (zero-add (length (held_in k gs))))
+            (take-splice-end places₀ 0 (held_in k gs) (omega (arith, many, w.twice, w.few, w.under, w.room, w.long)));
       }
 
-  pub holding-end : m.count ≤ i → Held
-  holding-end h = over (rw length-take (omega arith))
-
-  pub holding-past : 64 ≤ i → Held
-  holding-past h = over (rw length-take (omega (arith, w.grants)))
-
-  module _ (h : i < m.count) (l : i < 64) (d : Grant) {b : Bool} (e : b ≡ reads (get_or m.grants i d) k) where
-    next : drop i (take m.count m.grants) ≡ get_or m.grants i d ∷ drop (i + 1) (take m.count m.grants)
-    next =
-        drop-cons (take m.count m.grants) i d (rw length-take (omega (arith, w.grants)))
-        ∙ ap₂ (λ (g : Grant) (n : ℕ). g ∷ drop n (take m.count m.grants)) (get_or-take m.count m.grants i d h) (sym (add-one i))
+  module _ (h : i < length gs) (d : Grant) {b : Bool} (e : b ≡ reads (get_or gs i d) k) where
+    next : drop i gs ≡ get_or gs i d ∷ drop (i + 1) gs
+    next = drop-cons gs i d h ∙ ap (λ (n : ℕ). get_or gs i d ∷ drop n gs) (sym (add-one i))
 
     abbrev rest : List ℕ
-    rest = held_in k (drop (i + 1) (take m.count m.grants))
+    rest = held_in k (drop (i + 1) gs)
 
     module _ {places' : List ℕ} {j' : ℕ} where
-      pub holding-no : b ≡ false → places' ≡ places → j' ≡ j → Holding m k places₀ places' j' (i + 1)
+      pub holding-no : b ≡ false → places' ≡ places → j' ≡ j → Holding gs k places₀ places' j' (i + 1)
       unfolding held_in
       holding-no q pe je =
-          let same : held_in k (drop i (take m.count m.grants)) ≡ rest = rw (next, ← e, q) in
+          let same : held_in k (drop i gs) ≡ rest = rw (next, ← e, q) in
           rw (pe, je)
           (record {
-            grants = w.grants;
+            few = w.few;
             under = omega arith;
-            few = omega arith;
             twice = omega (arith, w.twice);
             room = w.room;
             long = w.long;
@@ -110,15 +100,14 @@ module _ {m : Manifest} {k : ℕ} {places₀ places : List ℕ} {j i : ℕ} (w :
             many = rw same at w.many;
           })
 
-      pub holding-yes : b ≡ true → (a n : ℕ) → a ≡ (get_or m.grants i d).start → n ≡ (get_or m.grants i d).len → (j₁ : ℕ) → j₁ ≡ suc j
-          → places' ≡ set (set places j a) j₁ n → j' ≡ suc j₁ → Holding m k places₀ places' j' (i + 1)
+      pub holding-yes : b ≡ true → (a n : ℕ) → a ≡ (get_or gs i d).start → n ≡ (get_or gs i d).len → (j₁ : ℕ) → j₁ ≡ suc j
+          → places' ≡ set (set places j a) j₁ n → j' ≡ suc j₁ → Holding gs k places₀ places' j' (i + 1)
       unfolding held_in
       holding-yes q a n ae ne j₁ je pe ke =
-          let here : held_in k (drop i (take m.count m.grants)) ≡ a ∷ n ∷ rest = rw (next, ← e, q, ← ae, ← ne) in
+          let here : held_in k (drop i gs) ≡ a ∷ n ∷ rest = rw (next, ← e, q, ← ae, ← ne) in
           record {
-            grants = w.grants;
+            few = w.few;
             under = omega arith;
-            few = omega arith;
             twice = omega (arith, w.twice);
             room = rw (pe, length-set, length-set) w.room;
             long = rw (pe, length-set, length-set) w.long;

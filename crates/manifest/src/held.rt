@@ -6,7 +6,7 @@ ghost use Rattle.manifest.specs.Held.{reads, held_of, stands_at};
 
 use crate::Manifest;
 use crate::grant::Grant;
-use le::cut;
+use le::{cut, front};
 use text::compare::same;
 use text::limits::Limits;
 
@@ -30,20 +30,13 @@ impl Manifest {
         ensures put { places.new ≡ splice places.old 0 (held_of self holder) }
         ensures front { take result places.new ≡ held_of self holder }
     {
-        let n = self.count;
         let mut k: usize = 0;
-        let mut i: usize = 0;
-        while i < n {
-            if Limits::GRANTS <= i {
-                return k;
-            }
-            let g = self.grants[i];
+        for g in front(&self.grants, self.count) {
             if g.reads(holder) {
                 places[k] = g.start as usize;
                 places[k + 1] = g.len as usize;
                 k += 2;
             }
-            i += 1;
         }
         k
     }
@@ -54,6 +47,7 @@ pub fn stands_at(text: &[u8], places: &[usize], topic: &[u8]) -> bool
     ensures { result ≡ stands_at text.now places.now topic.now }
 {
     let mut i: usize = 0;
+    // (by two: a `for` over pairs of numbers would need the law of the library's chunks for each step of this one)
     while 2 <= places.len() - i {
         if same(cut(text, places[i], places[i + 1]), topic) {
             return true;

@@ -12,6 +12,7 @@ use crate::charge::Charge;
 use crate::grant::Grant;
 use crate::head::{Head, passed};
 use crate::reading::{charge_at, modules_in};
+use le::front;
 use text::limits::Limits;
 use text::lines::{closed, line};
 use text::words::is_core;
@@ -120,17 +121,10 @@ impl Manifest {
         if out & is_core(topic) {
             return true;
         }
-        let n = self.count;
-        let mut i = 0;
-        while i < n {
-            if Limits::GRANTS <= i {
-                return false;
-            }
-            let g = self.grants[i];
+        for g in front(&self.grants, self.count) {
             if g.gives(text, holder, out, topic) {
                 return true;
             }
-            i += 1;
         }
         false
     }

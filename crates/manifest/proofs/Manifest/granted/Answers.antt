@@ -1,28 +1,33 @@
 -- The answers for `manifest::Manifest::granted`.
-use mathlib.Core.Path.{◌≡◌, refl}
-use borrow.Author.Rules.{rules}
+use mathlib.Core.Path.{◌≡◌, sym, ap, ◌∙◌}
+use Prim.Native.Nat.{◌<◌, ◌≤◌}
 use native.Mathlib.Omega.{arith}
-use lib.ListN.{length}
-use Rattle.manifest.proofs.AskingLaws.{asking-core, asking-start, asking-past, asking-end, asking-yes, asking-no}
+use borrow.Author.Rules.{rules}
+use lib.ListN.{length, take}
+use Rattle.manifest.specs.Places.{rights_of}
+use Rattle.manifest.proofs.AskingLaws.{asking-core, asking-start, asking-end, asking-yes, asking-no}
 use Rattle.manifest.proofs.Manifest.granted.Goals as goal
 
 pub returns-then-out-is_core : goal.returns-then-out-is_core
+unfolding rights_of
 returns-then-out-is_core c = search (rules, asking-core)
 
-pub loop-i-init : goal.loop-i-init
-loop-i-init c =
-    -- the array in `self` has its 64 elements
-    let room : length c.args.self.grants ≡ 64 = omega arith in
-    (refl, asking-start _ _ _ _ _ _ c.is_core.ensures c.if-out-is_core.false room)
-
-pub returns-then-i-ge-GRANTS : goal.returns-then-i-ge-GRANTS
-returns-then-i-ge-GRANTS c = search (rules, asking-past)
+pub loop-g-init : goal.loop-g-init
+loop-g-init c = asking-start _ _ _ _ _ _ c.is_core.ensures c.if-out-is_core.false
 
 pub returns-then-gives : goal.returns-then-gives
-returns-then-gives c = search (rules, asking-yes)
+unfolding rights_of
+returns-then-gives c =
+    let own = c.front-g-items.ensures in
+    asking-yes _ _ _ _ _ _ c.loop-g.invariant (rw own at c.loop-g-test.true) _ _ (rw own at c.gives.ensures) c.if-gives.true
 
-pub loop-i-preserved : goal.loop-i-preserved
-loop-i-preserved c = (search rules, search (rules, asking-no))
+pub loop-g-preserved : goal.loop-g-preserved
+loop-g-preserved c =
+    let own = c.front-g-items.ensures in
+    asking-no _ _ _ _ _ _ c.loop-g.invariant (rw own at c.loop-g-test.true) _ _ (rw own at c.gives.ensures) c.if-gives.false
 
 pub returns : goal.returns
-returns c = search (rules, asking-end)
+unfolding rights_of
+returns c =
+    let past : length c.front-g-items.result.now ≤ c.loop-g.g-index = omega (arith, c.loop-g-test.false) in
+    asking-end _ _ _ _ _ _ c.loop-g.invariant (rw c.front-g-items.ensures at past)
