@@ -1,12 +1,12 @@
 -- A return's code: a number with its sign, in range.
 -- Assumes nothing.
-use mathlib.Core.Path.{◌≡◌, refl, ap, sym, ◌∙◌, subst}
+use mathlib.Core.Path.{◌≡◌, refl, sym, ◌∙◌, subst}
 use mathlib.Core.Bool.{Bool, true, false}
 use mathlib.Core.List.{List, [], ◌∷◌}
-use Prim.Native.Nat.{ℕ, ◌+◌, ◌-◌, ◌≤◌}
+use Prim.Native.Nat.{ℕ, ◌+◌, ◌≤◌}
 use native.Mathlib.Omega.{arith}
 use lib.Dec.{leb, eqb}
-use lib.IntN.{ℤ, pos, negsuc, ◌-ℤ◌}
+use lib.IntN.{ℤ, pos}
 use lib.ListN.{length, take, drop}
 use lib.Pointwise.{pointwise}
 use denote.Bor.{Bor}
@@ -16,12 +16,11 @@ use Rattle.std.specs.List.{starts_with}
 use Rattle.std.proofs.lemmas.Bool.Decides.{nat_tests}
 use mir.Syntax.{w64}
 use mir.Val.{SFits, to_z, of_z}
-use mir.Facts.{to_z_pos, to_z-of_z}
+use mir.Facts.{to_z-of_z}
 use borrow.Author.Tests.{leb-true}
 use Rattle.std.specs.Prelude.{is_some, unwrap_or}
 use Rattle.le.proofs.TestLaws.{and_left, and_right}
 use Rattle.text.specs.Decimal.{number_of}
-use Rattle.value.proofs.Signs.{below-minus-one}
 use Rattle.script.specs.Forms.{minus, unsigned, in_range, good_code, signed, code_of}
 
 pub minus-first : (f : List ℕ) → starts_with eqb f (45 ∷ []) ≡ minus f
@@ -57,19 +56,9 @@ most-above false n e h = leb-true n 9223372036854775807 e
 
 -- ---- signs
 
-pub minus_is : (t : Bool) (n : ℕ) → in_range t n ≡ true → t ≡ true → negsuc 0 -ℤ to_z w64 (n - 1) ≡ signed t n
-minus_is t n e h =
-    ap (λ (z : ℤ). negsuc 0 -ℤ z) (to_z_pos w64 {n = n - 1} (omega (arith, most-below t n e h))) ∙ below-minus-one (n - 1) ∙ rw h
-
-pub plus-is : (t : Bool) (n : ℕ) → in_range t n ≡ true → t ≡ false → to_z w64 n ≡ signed t n
-plus-is t n e h = to_z_pos w64 {n = n} (omega (arith, most-above t n e h)) ∙ rw h
-
 pub signed-fits : (t : Bool) (n : ℕ) → in_range t n ≡ true → SFits w64 (signed t n)
 signed-fits true n e = record { sfits = omega (arith, most-below true n e refl, least-below true n e refl) }
 signed-fits false n e = record { sfits = omega (arith, most-above false n e refl) }
-
-pub minus-fits : (t : Bool) (n : ℕ) → in_range t n ≡ true → t ≡ true → SFits w64 (negsuc 0 -ℤ to_z w64 (n - 1))
-minus-fits t n e h = subst (SFits w64) (sym (minus_is t n e h)) (signed-fits t n e)
 
 -- ---- a code
 

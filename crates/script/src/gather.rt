@@ -24,6 +24,7 @@ fn held_with(held: usize, n: usize) -> usize
 }
 
 // More of the line of which `held` bytes stand in `line`: from `at` on of the piece, up to its end or the line's.
+// (`at` stays beside the piece: the contract holds for each place in it, and behind its end too.)
 pub fn gather(piece: &[u8], at: usize, line: &mut Buffer, held: usize) -> Gathered
     ensures value { result ≡ gathered piece.now at held }
     ensures line_after { line.new ≡ splice line.old held (more piece.now at) }

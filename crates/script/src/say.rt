@@ -74,6 +74,7 @@ impl Printer<'_> {
 }
 
 // A word, and what a call is answered with, at the front of a buffer: how many bytes that are.
+// (A whole line always stands at the front. So what says one takes the buffer and no printer, whose place each contract would have to name as 0.)
 pub fn say_answer(out: &mut Buffer, word: &[u8], c: Code, v: u64) -> usize
     requires { length word.now ≤ 9 }
     ensures put { Put out.old out.new 0 (said_answer word.now c v) result }

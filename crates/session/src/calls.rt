@@ -21,7 +21,7 @@ use text::lines::field;
 
 impl Session {
     // It goes on as the call left the host, and says what the call was answered with.
-    fn called(&mut self, word: &[u8], a: Answer, out: &mut Buffer) -> usize
+    fn go_on(&mut self, word: &[u8], a: Answer, out: &mut Buffer) -> usize
         requires { length word.now ≤ 9 }
         ensures next_value { self.new ≡ became self.old Playing self.old.size a.host }
         ensures put { Put out.old out.new 0 (said_answer word.now a.code a.value) result }
@@ -45,7 +45,7 @@ impl Session {
         let a = self
             .host
             .begin(&mut buffers.staging, &buffers.card, text, &args);
-        self.called(b"begin", a, out)
+        self.go_on(b"begin", a, out)
     }
 
     pub(crate) fn write(&mut self, line: &[u8], buffers: &mut Buffers, out: &mut Buffer) -> usize
@@ -62,7 +62,7 @@ impl Session {
             text,
             8,
         );
-        self.called(b"write", a, out)
+        self.go_on(b"write", a, out)
     }
 
     pub(crate) fn open(
@@ -79,7 +79,7 @@ impl Session {
         let a = self
             .host
             .open(&buffers.memory, &buffers.staging, &buffers.card, text, 8);
-        self.called(b"open", a, out)
+        self.go_on(b"open", a, out)
     }
 
     pub(crate) fn next(
@@ -103,7 +103,7 @@ impl Session {
             8,
         );
         let page = le::cut(&buffers.memory, 8, a.value as usize);
-        let at = self.called(b"next", a, out);
+        let at = self.go_on(b"next", a, out);
         let mut p = Printer { out, at };
         p.events(page);
         p.at

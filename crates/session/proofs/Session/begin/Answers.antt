@@ -5,4 +5,4 @@ use Rattle.session.proofs.Session.begin.Goals as goal
 
 pub returns : goal.returns
 unfolding begin_word
-returns c = begin-answers _ _ _ _ c.front-text.ensures _ _ _ _ _ _ _ _ c.begin_args-args.ensures c.begin-a.ensures.answer c.begin-a.ensures.bytes c.called.ensures.next_value c.called.ensures.put
+returns c = begin-answers _ _ _ _ c.front-text.ensures _ _ _ _ _ _ _ _ c.begin_args-args.ensures c.begin-a.ensures.answer c.begin-a.ensures.bytes c.go_on.ensures.next_value c.go_on.ensures.put

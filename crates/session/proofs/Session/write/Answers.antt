@@ -6,4 +6,4 @@ use Rattle.session.proofs.Session.write.Goals as goal
 
 pub returns : goal.returns
 unfolding write_word
-returns c = write-answers _ _ _ _ c.front-text.ensures _ _ _ _ _ _ _ (c.lay_write.ensures ∙ simp (c.field.ensures.0, c.field-2.ensures.0)) c.write-a.ensures.answer c.write-a.ensures.bytes c.called.ensures.next_value c.called.ensures.put
+returns c = write-answers _ _ _ _ c.front-text.ensures _ _ _ _ _ _ _ (c.lay_write.ensures ∙ simp (c.field.ensures.0, c.field-2.ensures.0)) c.write-a.ensures.answer c.write-a.ensures.bytes c.go_on.ensures.next_value c.go_on.ensures.put
