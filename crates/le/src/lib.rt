@@ -22,7 +22,7 @@ pub fn tail(s: &[u8], at: usize) -> &[u8]
     if s.len() < at { &s[..0] } else { &s[at..] }
 }
 
-// The n bytes from `at` on. With `front` and `tail` the only places where a part of a slice is taken: their callers' proofs say `take`, `drop` and
+// The n bytes from `at` on. With `front` and `tail` it takes the parts that may be cut short: their callers' proofs say `take`, `drop` and
 // `part`, and not what the borrow checker makes of a range.
 pub fn cut(s: &[u8], at: usize, n: usize) -> &[u8]
     ensures { result.now ≡ part at n s.now }

@@ -3,6 +3,7 @@ ghost use Rattle.std.specs.Prelude.{◌≡◌};
 ghost use Rattle.text.specs.Span.{inside};
 
 // Whether (ptr, len) is inside a memory of m bytes. No sum is made, so that none can wrap.
+#[tactic(auto, unfolding(crate::specs::Span::inside))]
 pub fn inside(ptr: u64, len: u64, m: u64) -> bool
     ensures { result ≡ inside ptr len m }
 {

@@ -101,7 +101,7 @@ fn good_text(s: &[u8], rule: Rule, least: usize, most: usize) -> bool
     }
 }
 
-// A topic of a call or of a grant.
+// A topic of a call or of a grant. (This and the next two are one function by a rule and two sizes; 01 names the three, and so do the promises.)
 pub fn good_topic(s: &[u8]) -> bool
     ensures { result ≡ good_topic s.now }
 {

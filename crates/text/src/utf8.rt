@@ -73,7 +73,7 @@ pub fn valid(s: &[u8]) -> bool
     ensures { result ≡ utf8 s.now }
 {
     let mut i = 0;
-    // No character is under way here.
+    // No character is under way here. (A turn passes one character, of one to four bytes, or eights: no iterator goes by such steps.)
     while i < s.len() {
         let b = s[i];
         if b < 0x80 {
