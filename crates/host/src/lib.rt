@@ -1,5 +1,8 @@
 // The host: its state by value, checks 1 to 3, the one place where a call is accepted or refused, and begin, open, close and return. The other operations are
 // functions over this state, in crates of their own.
+//
+// Staging, card, manifest and index are parameters, and no struct: the C interface lends each by itself, and which of them a call may write to differs from call to call.
+// Contracts take them together, as `lent_as`.
 #![tactic(auto)]
 
 pub mod begin;

@@ -1,4 +1,4 @@
-// The module calls: the arguments lie at `at` in the module's memory.
+// The module calls: the arguments lie at `at` in the module's memory. (Each buffer is a parameter of its own, here and in the other exports: the C interface.)
 ghost use Rattle.std.specs.Prelude.{◌≡◌};
 ghost use Rattle.manifest.specs.Saying.{charge_of};
 ghost use Rattle.host.specs.Hosts.{lent_as};

@@ -59,6 +59,7 @@ impl Manifest {
         let mut grants = Grant::none();
         let mut count: usize = 0;
         let mut from = at;
+        // (A `while`: where the next line begins is known only when this one has been looked at.)
         while from < text.len() {
             if Limits::GRANTS <= count {
                 return Manifest::refused();

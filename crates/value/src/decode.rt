@@ -25,6 +25,7 @@ pub(crate) fn decode(c: Cell) -> Value
     let t = c.kind;
     let n = c.first;
     let len = c.second;
+    // (The numbers are 01's types: they stand in a memory.)
     match t {
         0 => Value::Plain(Scalar::Unit),
         1 => boolean_of(n % 256), // the union's first byte

@@ -176,7 +176,7 @@ pub fn topic_fine(m: &[u8], s: Span) -> bool
     within & text::topic::good_topic(bytes_at(m, s))
 }
 
-// Check 5 of open.
+// Check 5 of open. (Two functions, as 01 has two checks, each with its own definition: they share the span and the bytes.)
 pub fn filter_fine(m: &[u8], s: Span) -> bool
     ensures { result ≡ filter_fine m.now s }
 {

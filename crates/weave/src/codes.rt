@@ -62,7 +62,7 @@ impl Code {
         if self.fine() { later } else { self }
     }
 
-    // What a module's return code means: Fine for 0 and 1, and what the weave is discarded with for the others.
+    // What a module's return code means: Fine for 0 and 1, and what the weave is discarded with for the others. (The numbers are 01's: they come from outside.)
     pub fn reason(code: i64) -> Code
         ensures { result ≡ reason_of code }
     {
