@@ -1,7 +1,7 @@
 // What cursors and reads list, page by page.
 use crate::show;
 use crate::tables::table_of;
-use card::{Cursor, Numbers, Query, Way};
+use card::{Cursor, Numbers, Part, Query, Way};
 use manifest::Manifest;
 use record::EventId;
 use streams::Streams;
@@ -29,13 +29,17 @@ fn cursor(l: &[u8]) -> Cursor {
 fn one(streams: &mut Streams, l: &[u8], card: &[u8], c: Cursor) -> Option<Cursor> {
     let text =
         b"modules\t3\ngrant\t1\tin\tloop/take\ngrant\t2\tout\tloop/take\ngrant\t3\tin\tloop/take\ngrant\t3\tin\ta\ngrant\t3\tin\tloop/mix\ngrant\t3\tin\tloop/take/2\n";
-    let s = le::front(card, cases::size(l, 1));
     let table = table_of(le::front(card, 992), 1);
     let first = EventId(1);
     let grants = Manifest::read(text);
     let mut room = [0usize; Manifest::PLACES];
     let many = grants.held(cases::number(l, 3), &mut room);
-    let places = le::front(&room, many);
+    let part = Part {
+        bytes: le::front(card, cases::size(l, 1)),
+        table: &table,
+        text,
+        places: le::front(&room, many),
+    };
     let q = Query {
         way: Way::Indexed,
         first,
@@ -43,7 +47,7 @@ fn one(streams: &mut Streams, l: &[u8], card: &[u8], c: Cursor) -> Option<Cursor
         cursor: c,
         cap: cases::size(l, 9),
     };
-    show::page(streams, s, &table, text, places, q, cases::size(l, 10))
+    show::page(streams, part, q, cases::size(l, 10))
 }
 
 // page n next module filter from to limit desc cap out
@@ -77,7 +81,12 @@ pub(crate) fn read(streams: &mut Streams, l: &[u8], card: &[u8]) {
             cursor: Cursor::reading(EventId(cases::number(l, 2))),
             cap: cases::size(l, 3),
         };
-        let table = [0u32; 1];
-        show::page(streams, s, &table, topic, &place, q, cases::size(l, 4));
+        let part = Part {
+            bytes: s,
+            table: &[0; 1],
+            text: topic,
+            places: &place,
+        };
+        show::page(streams, part, q, cases::size(l, 4));
     }
 }

@@ -3,7 +3,7 @@ ghost use Rattle.std.specs.Prelude.{◌≡◌, true};
 ghost use Rattle.card.specs.Look.{CanWalk};
 ghost use Rattle.card.specs.declared.Page.TheVariants.{Fault};
 
-use card::{Cursor, Page, Query};
+use card::{Cursor, Page, Part, Query};
 use record::Header;
 use saying::{number, word};
 use streams::Streams;
@@ -90,27 +90,19 @@ fn sound(p: Page) -> bool
     !matches!(p, Page::Fault)
 }
 
-// The page that is asked for, at the address `out`, of the part s with its table: the cursor for the next one, none where the list has ended.
-pub(crate) fn page(
-    streams: &mut Streams,
-    s: &[u8],
-    table: &[u32],
-    text: &[u8],
-    places: &[usize],
-    q: Query,
-    out: usize,
-) -> Option<Cursor>
-    requires { CanWalk q s.now }
+// The page that is asked for, at the address `out`, of the part that is lent: the cursor for the next one, none where the list has ended.
+pub(crate) fn page(streams: &mut Streams, part: Part, q: Query, out: usize) -> Option<Cursor>
+    requires { CanWalk q part.bytes.now }
 {
     if 1024 < q.cap || 1024 < out {
         return None;
     }
     let mut notes = [0usize; Page::NOTES];
-    let p = card::pages::measure(s, table, text, places, q, &mut notes);
+    let p = card::pages::measure(part, q, &mut notes);
     let mut memory = [0xEEu8; 2048];
     let mut after = q.cursor;
     if sound(p) {
-        after = card::pages::copy_page(s, table, text, places, q, &mut memory, out);
+        after = card::pages::copy_page(part, q, &mut memory, out);
     }
     let ended = found(streams, p, &memory, out);
     stands(streams, after);

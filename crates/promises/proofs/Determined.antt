@@ -170,11 +170,11 @@ pub record CardOnce : Type 0 where
   pub spots-spot-by : ResultOnce card.spots.spot_by.Kinds.ps card.spots.spot_by.Kinds.r card.spots.spot_by.Reads.Learnt
   pub listing-lists : ResultOnce card.listing.lists.Kinds.ps card.listing.lists.Kinds.r card.listing.lists.Reads.Learnt
   pub pages-measure : ResultOnce card.pages.measure.Kinds.ps card.pages.measure.Kinds.r card.pages.measure.Reads.Learnt
-  pub pages-measure-notes : SeenOnce card.pages.measure.Kinds.ps card.pages.measure.Kinds.r card.pages.measure.Reads.Learnt (λ κs z s. s.1.1.1.1.1.0.now)
+  pub pages-measure-notes : SeenOnce card.pages.measure.Kinds.ps card.pages.measure.Kinds.r card.pages.measure.Reads.Learnt (λ κs z s. s.1.1.0.now)
   pub pages-copy-page : ResultOnce card.pages.copy_page.Kinds.ps card.pages.copy_page.Kinds.r card.pages.copy_page.Reads.Learnt
-  pub pages-copy-page-memory : SeenOnce card.pages.copy_page.Kinds.ps card.pages.copy_page.Kinds.r card.pages.copy_page.Reads.Learnt (λ κs z s. s.1.1.1.1.1.0.now)
+  pub pages-copy-page-memory : SeenOnce card.pages.copy_page.Kinds.ps card.pages.copy_page.Kinds.r card.pages.copy_page.Reads.Learnt (λ κs z s. s.1.1.0.now)
   pub notes-copy-noted : ResultOnce card.notes.copy_noted.Kinds.ps card.notes.copy_noted.Kinds.r card.notes.copy_noted.Reads.Learnt
-  pub notes-copy-noted-memory : SeenOnce card.notes.copy_noted.Kinds.ps card.notes.copy_noted.Kinds.r card.notes.copy_noted.Reads.Learnt (λ κs z s. s.1.1.1.1.1.1.1.0.now)
+  pub notes-copy-noted-memory : SeenOnce card.notes.copy_noted.Kinds.ps card.notes.copy_noted.Kinds.r card.notes.copy_noted.Reads.Learnt (λ κs z s. s.1.1.1.1.0.now)
   pub walk-head-len : ResultOnce card.walk.head_len.Kinds.ps card.walk.head_len.Kinds.r card.walk.head_len.Reads.Learnt
   pub walk-check-chain : ResultOnce card.walk.check_chain.Kinds.ps card.walk.check_chain.Kinds.r card.walk.check_chain.Reads.Learnt
   pub walk-chain-to : ResultOnce card.walk.chain_to.Kinds.ps card.walk.chain_to.Kinds.r card.walk.chain_to.Reads.Learnt
@@ -252,9 +252,9 @@ pub record TakesOnce : Type 0 where
   pub page-page-check : ResultOnce takes.page.page_check.Kinds.ps takes.page.page_check.Kinds.r takes.page.page_check.Reads.Learnt
   pub page-page-bytes : ResultOnce takes.page.page_bytes.Kinds.ps takes.page.page_bytes.Kinds.r takes.page.page_bytes.Reads.Learnt
   pub page-find-page : ResultOnce takes.page.find_page.Kinds.ps takes.page.find_page.Kinds.r takes.page.find_page.Reads.Learnt
-  pub page-find-page-notes : SeenOnce takes.page.find_page.Kinds.ps takes.page.find_page.Kinds.r takes.page.find_page.Reads.Learnt (λ κs z s. s.1.1.1.1.1.1.0.now)
+  pub page-find-page-notes : SeenOnce takes.page.find_page.Kinds.ps takes.page.find_page.Kinds.r takes.page.find_page.Reads.Learnt (λ κs z s. s.1.1.1.0.now)
   pub page-hand-over : ResultOnce takes.page.hand_over.Kinds.ps takes.page.hand_over.Kinds.r takes.page.hand_over.Reads.Learnt
-  pub page-hand-over-memory : SeenOnce takes.page.hand_over.Kinds.ps takes.page.hand_over.Kinds.r takes.page.hand_over.Reads.Learnt (λ κs z s. s.1.1.1.1.1.1.1.1.0.now)
+  pub page-hand-over-memory : SeenOnce takes.page.hand_over.Kinds.ps takes.page.hand_over.Kinds.r takes.page.hand_over.Reads.Learnt (λ κs z s. s.1.1.1.1.1.0.now)
   pub page-kept-topic : ResultOnce takes.page.kept_topic.Kinds.ps takes.page.kept_topic.Kinds.r takes.page.kept_topic.Reads.Learnt
   pub stage-fault-code : ResultOnce takes.stage.fault_code.Kinds.ps takes.stage.fault_code.Kinds.r takes.stage.fault_code.Reads.Learnt
   pub stage-payload-checked : ResultOnce takes.stage.payload_checked.Kinds.ps takes.stage.payload_checked.Kinds.r takes.stage.payload_checked.Reads.Learnt
