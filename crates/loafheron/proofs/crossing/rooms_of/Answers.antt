@@ -12,4 +12,4 @@ unfolding rooms_of
 returns c =
     let n : length c.args.s ≡ 4 = search rules in
     mapped room_of c.args.s c.map.result (c.map.ensures.items.long ∙ sym n) (λ i d e l.
-        let there = c.map.ensures.items.at i d e (omega (arith, l, n)) in search rules)
+    let there = c.map.ensures.items.at i d e (omega (arith, l, n)) in search rules)

@@ -12,4 +12,4 @@ unfolding slots_said
 returns c =
     let n : length c.args.r ≡ 4 = search rules in
     mapped slot_said c.args.r c.map.result (c.map.ensures.items.long ∙ sym n) (λ i d e l.
-        let there = c.map.ensures.items.at i d e (omega (arith, l, n)) in search rules)
+    let there = c.map.ensures.items.at i d e (omega (arith, l, n)) in search rules)
