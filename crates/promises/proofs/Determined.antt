@@ -60,7 +60,7 @@ ruleset met = (meet, meet-0, meet-1, meet-1-0, meet-1-1, meet-1-1-0, meet-1-1-1)
 
 -- ---- numbers and runs of bytes
 
--- `front` at any type, and `get` and `put` at any number, whose value is its own
+-- `front` at any type, and `get` and `put` at any number. That two of one value are one is the law `distinct` of le's `Number`, which each number's impl proves.
 pub record LeOnce : Type 2 where
   pub front : (T : RattleType) (laws : Laws T) → SeenOnce (le.front.Kinds.ps T laws) (le.front.Kinds.r T laws) (le.front.Reads.Learnt T laws) (λ κs z s. z.now)
   pub tail : SeenOnce le.tail.Kinds.ps le.tail.Kinds.r le.tail.Reads.Learnt (λ κs z s. z.now)

@@ -3,18 +3,10 @@
 use mathlib.Core.Path.{◌≡◌, sym, ◌∙◌}
 use mathlib.Core.List.{List}
 use Prim.Native.Nat.{ℕ}
-use borrow.Fn.Kinds.{ParamKind, ResultKind, Dens, res_t, ended_of, Out}
-use denote.Triple.Clauses.{AtExit}
-use contract.Lifetimes.{Lfts}
 use Rattle.script.proofs as script
 use Rattle.script.specs.Saying.{Put}
 use Rattle.session.proofs as session
 use Rattle.promises.proofs.Determined.{ResultOnce, SeenOnce, meet, meet-0, meet-1}
-
--- a value of another type than bytes, at two exits
-abbrev pub LeftOnce : {n : ℕ} {A : Type 0} (ps : List (ParamKind n)) (r : ResultKind n) → Out n ps r → ((κs : Lfts n) → (res_t r κs).Denot → AtExit (ended_of n ps r) κs → A) → Type 0
-LeftOnce {n} ps r Q seen =
-    (κs : Lfts n) (a : Dens κs ps) (z z' : (res_t r κs).Denot) (s s' : AtExit (ended_of n ps r) κs) → Q κs a z s → Q κs a z' s' → seen κs z s ≡ seen κs z' s'
 
 -- ---- contracts that say what was put
 
@@ -35,17 +27,17 @@ pub record ScriptOnce : Type 0 where
   pub laying-lay-write-memory : SeenOnce script.laying.lay_write.Kinds.ps script.laying.lay_write.Kinds.r script.laying.lay_write.Reads.Learnt (λ κs z s. s.0.now)
   pub laying-lay-open-memory : SeenOnce script.laying.lay_open.Kinds.ps script.laying.lay_open.Kinds.r script.laying.lay_open.Reads.Learnt (λ κs z s. s.0.now)
   pub laying-lay-next-memory : SeenOnce script.laying.lay_next.Kinds.ps script.laying.lay_next.Kinds.r script.laying.lay_next.Reads.Learnt (λ κs z s. s.0.now)
-  pub printer-byte : LeftOnce script.say.Printer.byte.Kinds.ps script.say.Printer.byte.Kinds.r script.say.Printer.byte.Reads.Learnt (λ κs z s. s.0.now.at)
+  pub printer-byte : SeenOnce script.say.Printer.byte.Kinds.ps script.say.Printer.byte.Kinds.r script.say.Printer.byte.Reads.Learnt (λ κs z s. s.0.now.at)
   pub printer-byte-out : SeenOnce script.say.Printer.byte.Kinds.ps script.say.Printer.byte.Kinds.r script.say.Printer.byte.Reads.Learnt (λ κs z s. s.0.now.out.now)
-  pub printer-bytes : LeftOnce script.say.Printer.bytes.Kinds.ps script.say.Printer.bytes.Kinds.r script.say.Printer.bytes.Reads.Learnt (λ κs z s. s.0.now.at)
+  pub printer-bytes : SeenOnce script.say.Printer.bytes.Kinds.ps script.say.Printer.bytes.Kinds.r script.say.Printer.bytes.Reads.Learnt (λ κs z s. s.0.now.at)
   pub printer-bytes-out : SeenOnce script.say.Printer.bytes.Kinds.ps script.say.Printer.bytes.Kinds.r script.say.Printer.bytes.Reads.Learnt (λ κs z s. s.0.now.out.now)
-  pub printer-field : LeftOnce script.say.Printer.field.Kinds.ps script.say.Printer.field.Kinds.r script.say.Printer.field.Reads.Learnt (λ κs z s. s.0.now.at)
+  pub printer-field : SeenOnce script.say.Printer.field.Kinds.ps script.say.Printer.field.Kinds.r script.say.Printer.field.Reads.Learnt (λ κs z s. s.0.now.at)
   pub printer-field-out : SeenOnce script.say.Printer.field.Kinds.ps script.say.Printer.field.Kinds.r script.say.Printer.field.Reads.Learnt (λ κs z s. s.0.now.out.now)
-  pub printer-numeral : LeftOnce script.say.Printer.numeral.Kinds.ps script.say.Printer.numeral.Kinds.r script.say.Printer.numeral.Reads.Learnt (λ κs z s. s.0.now.at)
+  pub printer-numeral : SeenOnce script.say.Printer.numeral.Kinds.ps script.say.Printer.numeral.Kinds.r script.say.Printer.numeral.Reads.Learnt (λ κs z s. s.0.now.at)
   pub printer-numeral-out : SeenOnce script.say.Printer.numeral.Kinds.ps script.say.Printer.numeral.Kinds.r script.say.Printer.numeral.Reads.Learnt (λ κs z s. s.0.now.out.now)
-  pub printer-answer : LeftOnce script.say.Printer.answer.Kinds.ps script.say.Printer.answer.Kinds.r script.say.Printer.answer.Reads.Learnt (λ κs z s. s.0.now.at)
+  pub printer-answer : SeenOnce script.say.Printer.answer.Kinds.ps script.say.Printer.answer.Kinds.r script.say.Printer.answer.Reads.Learnt (λ κs z s. s.0.now.at)
   pub printer-answer-out : SeenOnce script.say.Printer.answer.Kinds.ps script.say.Printer.answer.Kinds.r script.say.Printer.answer.Reads.Learnt (λ κs z s. s.0.now.out.now)
-  pub printer-events : LeftOnce script.say.Printer.events.Kinds.ps script.say.Printer.events.Kinds.r script.say.Printer.events.Reads.Learnt (λ κs z s. s.0.now.at)
+  pub printer-events : SeenOnce script.say.Printer.events.Kinds.ps script.say.Printer.events.Kinds.r script.say.Printer.events.Reads.Learnt (λ κs z s. s.0.now.at)
   pub printer-events-out : SeenOnce script.say.Printer.events.Kinds.ps script.say.Printer.events.Kinds.r script.say.Printer.events.Reads.Learnt (λ κs z s. s.0.now.out.now)
   pub say-say-answer : ResultOnce script.say.say_answer.Kinds.ps script.say.say_answer.Kinds.r script.say.say_answer.Reads.Learnt
   pub say-say-answer-out : SeenOnce script.say.say_answer.Kinds.ps script.say.say_answer.Kinds.r script.say.say_answer.Reads.Learnt (λ κs z s. s.0.now)
@@ -82,8 +74,8 @@ pub record SessionOnce : Type 0 where
   pub buffers-fresh : ResultOnce session.Buffers.fresh.Kinds.ps session.Buffers.fresh.Kinds.r session.Buffers.fresh.Reads.Learnt
   pub fresh : ResultOnce session.Session.fresh.Kinds.ps session.Session.fresh.Kinds.r session.Session.fresh.Reads.Learnt
   pub answer : ResultOnce session.Session.answer.Kinds.ps session.Session.answer.Kinds.r session.Session.answer.Reads.Learnt
-  pub answer-session : LeftOnce session.Session.answer.Kinds.ps session.Session.answer.Kinds.r session.Session.answer.Reads.Learnt (λ κs z s. s.0.now)
-  pub answer-buffers : LeftOnce session.Session.answer.Kinds.ps session.Session.answer.Kinds.r session.Session.answer.Reads.Learnt (λ κs z s. s.1.1.0.now)
+  pub answer-session : SeenOnce session.Session.answer.Kinds.ps session.Session.answer.Kinds.r session.Session.answer.Reads.Learnt (λ κs z s. s.0.now)
+  pub answer-buffers : SeenOnce session.Session.answer.Kinds.ps session.Session.answer.Kinds.r session.Session.answer.Reads.Learnt (λ κs z s. s.1.1.0.now)
   pub answer-out : SeenOnce session.Session.answer.Kinds.ps session.Session.answer.Kinds.r session.Session.answer.Reads.Learnt (λ κs z s. s.1.1.1.0.now)
   pub «end» : ResultOnce session.Session.end.Kinds.ps session.Session.end.Kinds.r session.Session.end.Reads.Learnt
   pub end-out : SeenOnce session.Session.end.Kinds.ps session.Session.end.Kinds.r session.Session.end.Reads.Learnt (λ κs z s. s.1.0.now)

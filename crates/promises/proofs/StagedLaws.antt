@@ -136,7 +136,7 @@ module _ (charge : ℕ → ℕ) (l : Lent) (h : Host) (m : List ℕ) (a : ℕ) (
       go false e = raw-payload (write_args m a).flags (part (write_args m a).place (write_args m a).len m) e
 
   data_is : data_len m a ≡ length (payload_bytes m (write_args m a))
-  data_is = payload-long m (write_args m a) may.value may.payload
+  data_is = payload-long m (write_args m a) may.payload
 
   room : room_fine h (length (written_topic m a)) (length (payload_bytes m (write_args m a))) (length l.staging) ≡ true
   room = rw (topic-long, ← data_is) (may.room calm)

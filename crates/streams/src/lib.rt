@@ -64,13 +64,24 @@ impl Streams {
         done
     }
 
-    // One write, where nothing has failed yet; its error is kept.
+    // What a write came to: its error is kept.
+    fn keep(&mut self, written: io::Result<()>)
+        ensures ok { IsOk written → self.new.failed ≡ self.old.failed }
+        ensures err { IfErr written (λ e. self.new.failed ≡ Some e) }
+    {
+        if let Err(e) = written {
+            self.failed = Some(e);
+        }
+    }
+
+    // One write, where nothing has failed yet.
     fn put<F: FnOnce(&mut Stdout) -> io::Result<()>>(&mut self, write: F)
         requires { F.IsAlwaysCallable write }
         ensures { IsSome self.old.failed → self.new.failed ≡ self.old.failed }
     {
         if self.failed.is_none() {
-            self.failed = write(&mut self.output).err();
+            let written = write(&mut self.output);
+            self.keep(written);
         }
     }
 

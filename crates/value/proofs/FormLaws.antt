@@ -80,6 +80,15 @@ module _ (m : List ℕ) (p : ℕ) where
       go (Ok x) q = (refl, sym (ap (λ (r : Result ℕ Fault). result_unwrap_or r 0) q))
       go (Err f) q = let z : ◌≡◌ {A = ℕ} 0 1 = cc in absurd (omega arith)
 
+  -- the length that it gives, 0 where there is a fault
+  pub checked-long : result_unwrap_or (checked_value m p) 0 ≡ length (payload m p)
+  unfolding checked_value payload
+  checked-long = go (value_fault m p)
+    where
+      go : (f : Result ⊤ Fault) → result_unwrap_or (with_len f (length (cond (is_ok f) (form_of m (cell_at m p)) []))) 0 ≡ length (cond (is_ok f) (form_of m (cell_at m p)) [])
+      go (Ok x) = refl
+      go (Err f) = refl
+
   pub checked-err : (f : Fault) → checked_value m p ≡ Err f → length (payload m p) ≡ 0
   unfolding checked_value payload
   checked-err f e = go (value_fault m p) e
