@@ -18,7 +18,7 @@ pub fn number_or(l: &[u8], k: usize, other: u64) -> u64
     read_number(field(l, k)).unwrap_or(other)
 }
 
-// The number that field k is; 0 where it is none.
+// The number that field k is; 0 where it is none. (No Option: a case that lacks a number asks with 0; who wants another says it by `number_or`.)
 pub fn number(l: &[u8], k: usize) -> u64
     ensures { result ≡ unwrap_or (number_of (field k l.now)) 0 }
 {

@@ -13,6 +13,7 @@ pub(crate) enum Sample {
     Empty, // an empty string: flags 2, module 1, topic `a`
 }
 
+// (The numbers stand in the input; any other is the last sample.)
 impl From<u32> for Sample {
     fn from(n: u32) -> Sample {
         match n {

@@ -26,7 +26,8 @@ pub struct Host {
     pub weave: Weave,
 }
 
-// What the first checks of an operation find, and the manifest as it was read for them.
+// What the first checks of an operation find, and the manifest as it was read for them. (No Result: the later checks are made whether or not this one failed, and
+// they ask the manifest.)
 #[derive(Clone, Copy)]
 pub struct Entry {
     pub check: Code,

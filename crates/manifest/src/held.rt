@@ -47,7 +47,6 @@ pub fn stands_at(text: &[u8], places: &[usize], topic: &[u8]) -> bool
     ensures { result ≡ stands_at text.now places.now topic.now }
 {
     let mut i: usize = 0;
-    // (by two: a `for` over pairs of numbers would need the law of the library's chunks for each step of this one)
     while 2 <= places.len() - i {
         if same(cut(text, places[i], places[i + 1]), topic) {
             return true;

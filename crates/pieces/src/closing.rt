@@ -46,7 +46,8 @@ impl Play {
 
     // The line that is held is whole: what it says is put at the front of `out`.
     pub(crate) fn closed(&mut self, out: &mut Buffer) -> usize
-        ensures { Hears (closed (stand_of self.old)) (stand_of self.new) out.old out.new result }
+        ensures hears { Hears (closed (stand_of self.old)) (stand_of self.new) out.old out.new result }
+        ensures line { self.new.line ≡ self.old.line }
     {
         let line = le::front(&self.line, self.held);
         if is_name(self.many, line) {

@@ -31,6 +31,7 @@ impl Play {
         ensures { stand_of self.new ≡ (fed (stand_of self.old) piece.now).stand }
     {
         let mut rest = piece;
+        // (How much of a piece a line takes only `step` knows.)
         while !rest.is_empty() {
             let s = self.step(rest, out);
             tell(streams, out, s.wrote);
@@ -40,7 +41,8 @@ impl Play {
 
     // The last line of the input may lack byte 10.
     fn last(&mut self, streams: &mut Streams, out: &mut Buffer)
-        ensures { stand_of self.new ≡ (last_line (stand_of self.old)).stand }
+        ensures stand { stand_of self.new ≡ (last_line (stand_of self.old)).stand }
+        ensures line { self.new.line ≡ self.old.line }
     {
         if le::front(&self.line, self.held).len() < 1 {
             return;
@@ -51,7 +53,8 @@ impl Play {
 
     // The end of the input.
     pub fn end(&mut self, streams: &mut Streams, out: &mut Buffer)
-        ensures { stand_of self.new ≡ (ended (stand_of self.old)).stand }
+        ensures stand { stand_of self.new ≡ (ended (stand_of self.old)).stand }
+        ensures line { self.new.line ≡ self.old.line }
     {
         self.last(streams, out);
         let n = self.finish(out);

@@ -3,4 +3,4 @@ use Rattle.pieces.proofs.StepLaws.{end_is}
 use Rattle.pieces.proofs.Play.end.Goals as goal
 
 pub returns : goal.returns
-returns c = end_is _ _ c.last.ensures
+returns c = record { stand = end_is _ _ c.last.ensures.stand; line = c.last.ensures.line }

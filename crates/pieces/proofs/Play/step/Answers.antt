@@ -9,7 +9,7 @@ pub returns-then-g : goal.returns-then-g
 unfolding gathered
 returns-then-g c =
     record {
-      hears = step-whole c.args.self.now _ c.args.piece.now _ 0 _ _ _ (omega arith) c.front-held.ensures refl c.gather-g.ensures.value c.gather-g.ensures.line_after _ _ _ c.if-g.true c.closed-wrote.ensures;
+      hears = step-whole c.args.self.now _ c.args.piece.now _ 0 _ _ _ (omega arith) c.front-held.ensures refl c.gather-g.ensures.value c.gather-g.ensures.line_after _ _ _ c.if-g.true c.closed-wrote.ensures.hears;
       took = ap (λ (g : Gathered). g.at) c.gather-g.ensures.value;
     }
 
