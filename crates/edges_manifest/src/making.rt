@@ -20,26 +20,25 @@ impl Text {
         le::front(&self.bytes, self.len)
     }
 
-    fn push(&mut self, b: u8) {
-        if self.len < self.bytes.len() {
-            self.bytes[self.len] = b;
-            self.len += 1;
-        }
-    }
-
     // Behind it what is shown by s, as far as there is room.
     fn add(&mut self, s: &[u8]) {
+        let mut end = self.len;
         let mut rest = s;
         while let [b, behind @ ..] = rest {
+            if self.bytes.len() <= end {
+                break;
+            }
             let (byte, width) = match *b {
                 b'|' => (b'\t', 1),
                 b';' => (b'\n', 1),
                 b'<' => ((pattern(le::front(behind, 2)) & 0xFF) as u8, 4),
                 b => (b, 1),
             };
-            self.push(byte);
+            self.bytes[end] = byte;
+            end += 1;
             rest = le::tail(rest, width);
         }
+        self.len = end;
     }
 
     // What is shown by s, and nothing before it.
@@ -48,9 +47,12 @@ impl Text {
         self.add(s);
     }
 
-    // Behind it what is shown by s, so many times.
+    // Behind it what is shown by s, so many times, as far as there is room.
     pub(crate) fn repeat(&mut self, s: &[u8], times: usize) {
         for _ in 0..times {
+            if self.bytes.len() <= self.len {
+                return;
+            }
             self.add(s);
         }
     }

@@ -166,12 +166,14 @@ pub fn put<N: Number>(s: &mut [u8], at: usize, n: N)
 
 // ---- runs of bytes
 
-// All of `src`, written over `dst` from `at` on.
+// All of `src`, written over `dst` from `at` on. (A `for`, as `copy_from_slice` asks for the C library's `memmove`: whoever links an archive would have to bring one more name.)
 pub fn copy_at(src: &[u8], dst: &mut [u8], at: usize)
     requires { at + length src.now ≤ length dst.old }
     ensures { dst.new ≡ splice dst.old at src.now }
 {
-    dst[at..at + src.len()].copy_from_slice(src);
+    for i in 0..src.len() {
+        dst[at + i] = src[i];
+    }
 }
 
 // As much of `src` as `dst` has room for from `at` on, written there: no caller has to ask first.

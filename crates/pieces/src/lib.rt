@@ -9,7 +9,7 @@ use script::Buffer;
 use session::{Buffers, Session};
 
 // A session with its buffers, and the line under way.
-#[derive(Drop)]
+#[derive(Clone, Copy)]
 pub struct Play {
     pub session: Session,
     pub buffers: Buffers,

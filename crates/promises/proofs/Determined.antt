@@ -1,17 +1,31 @@
 -- For each public function: two results that meet its contract are equal, and so is each buffer that it was lent to write to. The contract is `Learnt`, what
 -- the check gives a caller of the function. (Of a returned slice the bytes are equal: a contract has no word for its place.)
 -- Assumes nothing.
-use mathlib.Core.Path.{◌≡◌, sym, ◌∙◌}
+use mathlib.Core.Path.{◌≡◌, refl, sym, ◌∙◌}
 use mathlib.Core.List.{List}
 use Prim.Native.Nat.{ℕ}
 use borrow.Fn.Kinds.{ParamKind, ResultKind, Dens, res_t, ended_of, Out}
 use denote.Triple.Clauses.{AtExit}
 use contract.Lifetimes.{Lfts}
 use denote.RattleType.{RattleType}
-use denote.Param.Laws.{Laws, IsCopy}
-use mir.Syntax.{Dict}
+use denote.Exit.{no}
+use denote.Struct.Field.{uint_field}
+use denote.Struct.Laws.{FLaws, Copyable, u8-laws, u32-laws, u64-laws, u8-copy, u32-copy, u64-copy}
+use denote.Param.{arg}
+use denote.Param.Laws.{Laws, IsCopy, arg_laws, arg_copy, of_field, of_copyable}
+use denote.Param.Shared.{copy_shared}
+use mir.Syntax.{Dict, Width, w8, w32, w64, ty_int}
 use Rattle.std.specs.declared.clone.Clone as Clone
+use Rattle.std.specs.contracts.prelude.U8Clone.TheImpl as u8-clone
+use Rattle.std.specs.contracts.prelude.U32Clone.TheImpl as u32-clone
+use Rattle.std.specs.contracts.prelude.U64Clone.TheImpl as u64-clone
 use Rattle.le.specs.declared.Number as Number
+use Rattle.le.specs.contracts.U8Number.TheImpl as u8-number
+use Rattle.le.specs.contracts.U32Number.TheImpl as u32-number
+use Rattle.le.specs.contracts.U64Number.TheImpl as u64-number
+use Rattle.le.specs.contracts.U8Number.TheImpl.Laws as u8-proved
+use Rattle.le.specs.contracts.U32Number.TheImpl.Laws as u32-proved
+use Rattle.le.specs.contracts.U64Number.TheImpl.Laws as u64-proved
 use Rattle.le.proofs as le
 use Rattle.text.proofs as text
 use Rattle.value.proofs as value
@@ -60,7 +74,32 @@ ruleset met = (meet, meet-0, meet-1, meet-1-0, meet-1-1, meet-1-1-0, meet-1-1-1)
 
 -- ---- numbers and runs of bytes
 
--- `front` at any type, and `get` and `put` at any number. That two of one value are one is the law `distinct` of le's `Number`, which each number's impl proves.
+-- A number's type as a call of `get` or `put` hands it over, with the kit's laws for it.
+pub record Handed : Type 2 where
+  pub row : RattleType
+  pub laws : Laws row
+  pub copies : IsCopy row
+
+abbrev pub handed : (w : Width) → FLaws (uint_field w) → Copyable (uint_field w) → Handed
+handed w laws copies =
+    let F = uint_field w in
+    record {
+      row = arg (ty_int w) no F.row;
+      laws = arg_laws (ty_int w) no F.row (of_field F laws refl (copy_shared F copies)) refl;
+      copies = arg_copy (ty_int w) no F.row (of_copyable F copies) refl;
+    }
+
+abbrev pub u8 : Handed
+u8 = handed w8 u8-laws u8-copy
+
+abbrev pub u32 : Handed
+u32 = handed w32 u32-laws u32-copy
+
+abbrev pub u64 : Handed
+u64 = handed w64 u64-laws u64-copy
+
+-- `front` at any type. What is over any number stands here over any, and once more at each type that is one. That two numbers of one value are one is the
+-- law `distinct` of le's `Number`: over any number it is a premise, and at each type it is cited as the type's impl proves it.
 pub record LeOnce : Type 2 where
   pub front : (T : RattleType) (laws : Laws T) → SeenOnce (le.front.Kinds.ps T laws) (le.front.Kinds.r T laws) (le.front.Reads.Learnt T laws) (λ κs z s. z.now)
   pub tail : SeenOnce le.tail.Kinds.ps le.tail.Kinds.r le.tail.Reads.Learnt (λ κs z s. z.now)
@@ -68,8 +107,25 @@ pub record LeOnce : Type 2 where
   pub get : (N : RattleType) (laws : Laws N) (copies : IsCopy N) (number : Number.Ghosts N.Denot) (d : Dict) (clone : Clone.Ghosts N.Denot) (e : Dict)
       → ((m n : N.Denot) → number.value m ≡ number.value n → m ≡ n)
       → ResultOnce (le.get.Kinds.ps N laws copies) (le.get.Kinds.r N laws copies) (le.get.Reads.Learnt N laws copies number d clone e)
+  pub get-u8 : ResultOnce (le.get.Kinds.ps u8.row u8.laws u8.copies) (le.get.Kinds.r u8.row u8.laws u8.copies) (le.get.Reads.Learnt u8.row u8.laws u8.copies u8-number.ghosts u8-number.dict u8-clone.ghosts u8-clone.dict)
+  pub get-u32 : ResultOnce (le.get.Kinds.ps u32.row u32.laws u32.copies) (le.get.Kinds.r u32.row u32.laws u32.copies) (le.get.Reads.Learnt u32.row u32.laws u32.copies u32-number.ghosts u32-number.dict u32-clone.ghosts u32-clone.dict)
+  pub get-u64 : ResultOnce (le.get.Kinds.ps u64.row u64.laws u64.copies) (le.get.Kinds.r u64.row u64.laws u64.copies) (le.get.Reads.Learnt u64.row u64.laws u64.copies u64-number.ghosts u64-number.dict u64-clone.ghosts u64-clone.dict)
   pub put-s : (N : RattleType) (laws : Laws N) (copies : IsCopy N) (number : Number.Ghosts N.Denot) (d : Dict) (clone : Clone.Ghosts N.Denot) (e : Dict)
       → SeenOnce (le.put.Kinds.ps N laws copies) (le.put.Kinds.r N laws copies) (le.put.Reads.Learnt N laws copies number d clone e) (λ κs z s. s.0.now)
+  pub put-u8-s : SeenOnce (le.put.Kinds.ps u8.row u8.laws u8.copies) (le.put.Kinds.r u8.row u8.laws u8.copies) (le.put.Reads.Learnt u8.row u8.laws u8.copies u8-number.ghosts u8-number.dict u8-clone.ghosts u8-clone.dict) (λ κs z s. s.0.now)
+  pub put-u32-s : SeenOnce (le.put.Kinds.ps u32.row u32.laws u32.copies) (le.put.Kinds.r u32.row u32.laws u32.copies) (le.put.Reads.Learnt u32.row u32.laws u32.copies u32-number.ghosts u32-number.dict u32-clone.ghosts u32-clone.dict) (λ κs z s. s.0.now)
+  pub put-u64-s : SeenOnce (le.put.Kinds.ps u64.row u64.laws u64.copies) (le.put.Kinds.r u64.row u64.laws u64.copies) (le.put.Reads.Learnt u64.row u64.laws u64.copies u64-number.ghosts u64-number.dict u64-clone.ghosts u64-clone.dict) (λ κs z s. s.0.now)
+  pub number-narrowed : (N : RattleType) (laws : Laws N) (copies : IsCopy N) (number : Number.Ghosts N.Denot) (d : Dict) (clone : Clone.Ghosts N.Denot) (e : Dict)
+      → ((m n : N.Denot) → number.value m ≡ number.value n → m ≡ n)
+      → ResultOnce (le.Number.narrowed.Kinds.ps N laws copies) (le.Number.narrowed.Kinds.r N laws copies) (le.Number.narrowed.Reads.Learnt N laws copies number d clone e)
+  pub number-narrowed-u8 : ResultOnce le.U8Number.narrowed.Kinds.ps le.U8Number.narrowed.Kinds.r le.U8Number.narrowed.Reads.Learnt
+  pub number-narrowed-u32 : ResultOnce le.U32Number.narrowed.Kinds.ps le.U32Number.narrowed.Kinds.r le.U32Number.narrowed.Reads.Learnt
+  pub number-narrowed-u64 : ResultOnce le.U64Number.narrowed.Kinds.ps le.U64Number.narrowed.Kinds.r le.U64Number.narrowed.Reads.Learnt
+  pub number-widened : (N : RattleType) (laws : Laws N) (copies : IsCopy N) (number : Number.Ghosts N.Denot) (d : Dict) (clone : Clone.Ghosts N.Denot) (e : Dict)
+      → ResultOnce (le.Number.widened.Kinds.ps N laws copies) (le.Number.widened.Kinds.r N laws copies) (le.Number.widened.Reads.Learnt N laws copies number d clone e)
+  pub number-widened-u8 : ResultOnce le.U8Number.widened.Kinds.ps le.U8Number.widened.Kinds.r le.U8Number.widened.Reads.Learnt
+  pub number-widened-u32 : ResultOnce le.U32Number.widened.Kinds.ps le.U32Number.widened.Kinds.r le.U32Number.widened.Reads.Learnt
+  pub number-widened-u64 : ResultOnce le.U64Number.widened.Kinds.ps le.U64Number.widened.Kinds.r le.U64Number.widened.Reads.Learnt
   pub copy-at-dst : SeenOnce le.copy_at.Kinds.ps le.copy_at.Kinds.r le.copy_at.Reads.Learnt (λ κs z s. s.1.0.now)
   pub lay-dst : SeenOnce le.lay.Kinds.ps le.lay.Kinds.r le.lay.Reads.Learnt (λ κs z s. s.1.0.now)
   pub copy-part-dst : SeenOnce le.copy_part.Kinds.ps le.copy_part.Kinds.r le.copy_part.Reads.Learnt (λ κs z s. s.1.1.1.0.now)
@@ -83,7 +139,21 @@ le-once =
       tail = search met;
       cut = search met;
       get = λ N laws copies number d clone e one κs a z z' s s' p q. one z z' (p ∙ sym q);
+      get-u8 = λ κs a z z' s s' p q. u8-proved.distinct-law z z' (p ∙ sym q);
+      get-u32 = λ κs a z z' s s' p q. u32-proved.distinct-law z z' (p ∙ sym q);
+      get-u64 = λ κs a z z' s s' p q. u64-proved.distinct-law z z' (p ∙ sym q);
       put-s = λ N laws copies number d clone e. search met;
+      put-u8-s = search met;
+      put-u32-s = search met;
+      put-u64-s = search met;
+      number-narrowed = λ N laws copies number d clone e one κs a z z' s s' p q. one z z' (p ∙ sym q);
+      number-narrowed-u8 = search met;
+      number-narrowed-u32 = search met;
+      number-narrowed-u64 = search met;
+      number-widened = λ N laws copies number d clone e. search met;
+      number-widened-u8 = search met;
+      number-widened-u32 = search met;
+      number-widened-u64 = search met;
       copy-at-dst = search met;
       lay-dst = search met;
       copy-part-dst = search met;

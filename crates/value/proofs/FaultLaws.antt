@@ -17,9 +17,13 @@ use Rattle.value.specs.declared.Span.{Span}
 use Rattle.value.specs.declared.Value.{Value}
 use Rattle.value.specs.declared.Value.TheVariants.{Plain, Text, Array, Wrong}
 use Rattle.value.specs.declared.Fault.{Fault}
-use Rattle.std.specs.Prelude.{Result, Ok, Err, ⊤}
+use Rattle.std.specs.Prelude.{Result, Ok, Err, is_ok, ⊤}
 use Rattle.value.specs.declared.Fault.TheVariants.{Outside, Unfit}
 use Rattle.value.specs.Values.{content_span, content_of, content_len, span_fault, text_fault, fault_of}
+
+pub fine-is : (f : Result ⊤ Fault) → is_ok f ≡ true → f ≡ Ok tt
+fine-is (Ok x) e = refl
+fine-is (Err f) e = let z : ◌≡◌ {A = ℕ} 0 1 = cc in absurd (omega arith)
 
 -- a check that is fine: its test passed, and so did what came behind it
 pub passed : (b : Bool) (f : Result ⊤ Fault) → cond b f (Err Outside) ≡ Ok tt → (b ≡ true) × (f ≡ Ok tt)

@@ -25,15 +25,11 @@ use Rattle.value.specs.Forms.{cell_of, form_of, payload, with_len, checked_of, g
 use Rattle.value.proofs.CellLaws.{of, length-cell, Fitting, read_fits, cell-back, cell-exact, cell-zeros}
 use Rattle.value.proofs.DecodeLaws.{Read, plain, text, array, wrong, reads}
 use Rattle.value.proofs.ScalarLaws.{kind-lt, bits-lt}
-use Rattle.value.proofs.FaultLaws.{inside_is, content-long}
+use Rattle.value.proofs.FaultLaws.{fine-is, inside_is, content-long}
 use Rattle.value.proofs.FormLaws.{form-long, ready}
 use Rattle.value.proofs.MovedLaws.{moved}
 
 -- ---- what is good is stored as it stands
-
-fine-is : (f : Result ⊤ Fault) → is_ok f ≡ true → f ≡ Ok tt
-fine-is (Ok x) e = refl
-fine-is (Err f) e = let z : ◌≡◌ {A = ℕ} 0 1 = cc in absurd (omega arith)
 
 pub record Good (b : List ℕ) : Type 0 where
   pub long : 32 ≤ length b
